@@ -260,5 +260,12 @@ def _may_leave(moment, data):
     furthest = max([len(synced)] + [end for _, end in dirty])
     if not len(synced) <= len(data) <= furthest:
         return False
-    return all(data[i] == synced[i] or any(at <= i < end for at, end in dirty)
-               for i in range(len(synced)))
+    return _blanked(data[:len(synced)], dirty) == _blanked(synced, dirty)
+
+
+def _blanked(data, ranges):
+    """The bytes with zeros in these ranges."""
+    blanked = bytearray(data)
+    for at, end in ranges:
+        blanked[at:end] = bytes(max(0, min(end, len(data)) - at))
+    return blanked

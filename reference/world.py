@@ -39,9 +39,9 @@ class World:
 
     def crash(self, image):
         """('Reopened', number of entries), or ('NoImage',) where no crash at
-        a moment since the event before began may have left the image."""
+        a moment since the event before began may have left the image: then
+        nothing has happened, and this was no event."""
         if not self.disk.is_image(bytes(image), self.since):
-            self.since = self.disk.now()
             return ("NoImage",)
         self.disk = MemDisk(image)
         self.since = 0

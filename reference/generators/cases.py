@@ -27,6 +27,9 @@ def key_words():
         ["keygen", SEED, "--height", "11"], ["keygen", SEED, "--height", "x"],
         ["keygen", SEED, "--height"], ["keygen", SEED, "--height", "5", "--height", "5"],
         ["keygen", SEED, "--levels", "3"], ["keygen", SEED, "--levels", "0"],
+        ["keygen", "--levels=2", SEED, "--height", "10"], ["keygen", SEED[:47], "--levels", "2"],
+        ["keygen", SEED, "--levels", "2", "--levels", "2"], ["keygen", SEED, "--levels", "02"],
+        ["seal", SEED, b"", "--levels", "2"], ["seal", SEED, b"", "--height=10", "--levels=2"],
         ["keygen", SEED, "--least", "0"], ["keygen", "--", SEED], ["keygen", "-x", SEED],
         ["keygen", SEED[:47]], ["keygen", b""], ["keygen", SEED + b"\0"], ["keygen", "absent"],
         ["seal", SEED], ["seal", "absent", b"bad"], ["seal", SEED[:4], "absent"],
@@ -77,9 +80,29 @@ def journal_words(pub):
 
 def word_cases():
     """Words right and wrong, and files that are none."""
-    pub = SealedScript("").public_bytes
+    pubs = [SealedScript("").public_bytes, *built("levels", SealedScript("", levels=2).public_bytes)]
+    yield from (("words " + repr(words), words) for words in key_words())
     yield from (("words " + repr(words), words)
-                for words in key_words() + check_words(pub) + journal_words(pub))
+                for pub in pubs for words in check_words(pub) + journal_words(pub))
+
+
+def border_cases(seed):
+    """Versions on both sides of the border of two lower trees, and as many as a key has, and more."""
+    if not has("levels"):
+        return
+    for count in (31, 32, 33, 40, *((1023, 1024) if seed == 1 else ())):
+        yield "seal over borders", ["seal", SEED, turns(count), "--levels", "2"]
+    world = SealedScript(turns(39).decode(), levels=2)
+    for version in (0, 30, 31, 32, 33, 39):
+        data = world.store.answer_at(version, parse_query(TEXT))
+        yield "check over borders", ["check", world.public_bytes, TEXT, data]
+        yield "audit over borders", ["audit", world.public_bytes, world.journal, TEXT, data]
+
+
+def turns(count):
+    """The script of so many batches, each second of which drops the table that the one before makes."""
+    batches = b"CREATE TABLE t (id BIGINT, PRIMARY KEY (id)); COMMIT; ", b"DROP TABLE t; COMMIT; "
+    return b"".join(batches[number % 2] for number in range(count))
 
 
 def sql_cases(rng, size):
@@ -180,6 +203,7 @@ def all_cases(seed, size):
     """All of them; SIZE says how many random ones there are."""
     rng = random.Random(seed)
     yield from word_cases()
+    yield from border_cases(seed)
     yield from sql_cases(rng, size)
     yield from workload_cases(rng, seed, size)
     yield from hostile_cases(rng, seed, size)

@@ -58,6 +58,18 @@ class Events(unittest.TestCase):
         for image in self.world.disk.images():
             self.assertEqual(self.world.crash(image), ("Reopened", 3))
 
+    def test_crashes_inside_a_commit(self):
+        """The commit is there or isn't, also behind bytes that are no image; once a reader
+        has been asked, it is there."""
+        self.grow()
+        before = journal_bytes(self.entries[:2])
+        self.assertEqual(self.world.crash(b""), ("NoImage",))
+        self.assertEqual(self.world.crash(before), ("Reopened", 2))
+        self.assertEqual(self.world.crash(before + b"\0"), ("NoImage",))
+        self.assertEqual(self.world.commit(self.batches[1], EMPTY_LEAF), ("Committed", 2))
+        self.world.receive(0, QUERY, b"")
+        self.assertEqual(self.world.crash(before), ("NoImage",))
+
 
 if __name__ == "__main__":
     unittest.main()

@@ -17,15 +17,29 @@ def talk_text(words, files, net, disk=None):
     """The status and the output of a run with connections, and what was put on them."""
     sink = MemSink()
     status = run(words, MemShelf(files), disk or MemDisk(), net, sink)
-    put = b"".join(bytes(sent) for sent in net.sent)
-    return f"{status} {output(bytes(sink.written))} put {put.hex()}"
+    return f"{status} {output(bytes(sink.written))} {put_text(net)}"
+
+
+def put_text(net):
+    """What was put on connections."""
+    return f"put {b''.join(map(bytes, net.sent)).hex()}"
 
 
 def own_text(words, files, net, disk, crash=None):
     """The same with a disk, how many calls of it were made, and what it holds then or a crash leaves; and these bytes."""
     text = talk_text(words, files, net, disk)
-    left = image_with(disk.moments[min(crash[0], disk.now())], crash[1]) if crash else bytes(disk.data)
-    return f"{text} calls {disk.calls} disk {left_text(files, left)}", left
+    left = left_on(disk, crash)
+    return f"{text} {disk_text(files, disk, left)}", left
+
+
+def left_on(disk, crash):
+    """What a disk holds, or what a crash leaves there."""
+    return image_with(disk.moments[min(crash[0], disk.now())], crash[1]) if crash else bytes(disk.data)
+
+
+def disk_text(files, disk, left):
+    """How many calls of a disk were made, and what is left there."""
+    return f"calls {disk.calls} disk {left_text(files, left)}"
 
 
 def image_with(moment, lost):

@@ -17,9 +17,9 @@ class OwnerTalk:
     """A script, the bytes that come from the store and how many come at once, and what the disk holds; which call of it fails, behind
     how many bytes, or when a crash comes, and what it leaves."""
 
-    def __init__(self, script, coming, piece, journal, failure=None, crash=None):
+    def __init__(self, words, script, coming, piece, journal, failure=None, crash=None):
         self.files = {"script": script, "c0": coming, "disk": journal}
-        self.piece, self.failure, self.crash = piece, failure, crash
+        self.own_words, self.piece, self.failure, self.crash = words, piece, failure, crash
 
     def words(self):
         """The call of run_lines, its names and numbers."""
@@ -31,13 +31,13 @@ class OwnerTalk:
         return ["own"]
 
     def line(self):
-        return " ".join([*self.words(), "disk", "c0", str(self.piece), *(word.encode().hex() for word in WORDS)])
+        return " ".join([*self.words(), "disk", "c0", str(self.piece), *(word.encode().hex() for word in self.own_words)])
 
     def due(self, files):
         """What the other implementation ends with, writes, puts and leaves on the disk, which is kept."""
         failing = ([self.failure[0] + 1], self.failure[1]) if self.failure else ()
         disk = MemDisk(files["disk"], *failing)
-        text, left = own_text(WORDS, files, MemNet([files["c0"]], self.piece), disk, self.crash)
+        text, left = own_text(self.own_words, files, MemNet([files["c0"]], self.piece), disk, self.crash)
         files.pop("disk")
         files["disk"] = left
         return text
@@ -46,16 +46,17 @@ class OwnerTalk:
 def owner_talk(world, piece, changed):
     """A conversation in a world; `changed` changes bytes at random."""
     run = world.run
-    held = run.randint(0, len(world.entries))
+    held = run.randint(world.settled, len(world.entries))
     journal, script = journal_of(world.entries[:held]), script_of(world, held)
-    answers = honest_answers(store_for(world, held), journal, script)
+    words = [*WORDS, *world.options]
+    answers = honest_answers(words, store_for(world, held), journal, script)
     coming = coming_bytes(run, answers, changed)
     failure = crash = None
     if run.random() < 0.15:
         failure = run.randrange(12), run.choice([0, 1, 5, 700, 5000])
     elif run.random() < 0.15:
         crash = run.randrange(14), bytes([run.choice([0, 1, 255])]) * run.choice([1, 2000, 20000])
-    return OwnerTalk(script, coming, piece, disk_bytes(run, journal, changed), failure, crash)
+    return OwnerTalk(words, script, coming, piece, disk_bytes(run, journal, changed), failure, crash)
 
 
 def journal_of(entries):
@@ -72,9 +73,9 @@ def script_of(world, held):
     return "".join(text + " COMMIT; " for text in texts).encode()
 
 
-def store_of(journal):
-    """A store that has loaded a journal."""
-    return load_journal(SECRET.public(), journal)
+def store_of(world, entries):
+    """A store of these entries."""
+    return load_journal(world.secret.public(), journal_of(entries))
 
 
 def store_for(world, held):
@@ -82,13 +83,13 @@ def store_for(world, held):
     run = world.run
     kind = run.random()
     if kind < 0.1:
-        return store_of(journal_of(world.others[:run.randint(0, len(world.others))]))
+        return store_of(world, world.others[:run.randint(0, len(world.others))])
     if kind < 0.2:
-        return store_of(journal_of(world.entries[:run.randint(held, len(world.entries))]))
-    return store_of(journal_of(world.entries[:held if kind < 0.6 else run.randint(0, held)]))
+        return store_of(world, world.entries[:run.randint(held, len(world.entries))])
+    return store_of(world, world.entries[:held if kind < 0.6 else run.randint(0, held)])
 
 
-def honest_answers(store, journal, script):
+def honest_answers(words, store, journal, script):
     """What the store answers to the owner of this journal who commits the script."""
     answers = []
 
@@ -97,7 +98,7 @@ def honest_answers(store, journal, script):
         serve_link(store, link)
         answers.append(bytes(link.sent))
         return answers[-1]
-    cli.run(WORDS, MemShelf({"seed": SEED, "script": script}), MemDisk(journal), PeerNet(answer), MemSink())
+    cli.run(words, MemShelf({"seed": SEED, "script": script}), MemDisk(journal), PeerNet(answer), MemSink())
     return answers
 
 

@@ -16,18 +16,13 @@ NO_LINE = "no such line"
 
 # -- the answers of clients
 
-def fault_form(fault):
-    fields = [forms.octets(field) if isinstance(field, (bytes, str)) else str(field) for field in fault.fields.values()]
-    return forms.form(fault.name, *fields) if fields else fault.name
-
-
 def client_answer(key, least, query, data):
     """What a client answers who takes no version below this one, and the least version that it takes then."""
     try:
         answer = check_of(key, least, query, data)
     except CheckFault as fault:
-        return f"{fault_form(fault)} least {least}"
-    return f"{forms.form('answer', str(answer.version), forms.outcome(answer.outcome))} least {answer.version}"
+        return f"{forms.check_fault(fault)} least {least}"
+    return f"{forms.answer(answer)} least {answer.version}"
 
 
 # -- bytes as lines spell them

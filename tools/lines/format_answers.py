@@ -3,7 +3,7 @@
 A row is the word of a call and its byte strings; those that a line shares with the bytes kept last are spelled by their
 places there.
 """
-import os
+import functools
 import re
 
 from comparisons.memory_runs import image_with
@@ -24,6 +24,7 @@ from reference.sql import parse_query
 from reference.store import load_journal
 from reference.tree import attr_digest, cell_digest, hide, row_digest
 from reference.values import Cursor, take_value, value_bytes
+from reference.world import World
 
 
 # -- the calls, as the other implementation answers them
@@ -49,6 +50,12 @@ def cells_text(cells):
 
 def catalog_text(catalog):
     return f"{catalog_digest(catalog.bytes()).hex()} {catalog.bytes().hex()}"
+
+
+def signature_length(key):
+    """How many bytes a key's signatures have."""
+    length = lms.lms_length(key.upper.ots, key.h)
+    return length if key.levels == 1 else 60 + 2 * length
 
 
 def or_none(thing, show):
@@ -97,7 +104,7 @@ class Calls:
     """The calls by their words; a call answers with its line."""
 
     def __init__(self):
-        self.kept, self.made = b"", None
+        self.kept, self.made, self.begun = b"", None, None
 
     def keep(self, data):
         self.kept = data
@@ -142,6 +149,10 @@ class Calls:
         self.made = lms.SecretKey.make(ident, seed, number(ots), number(height))
         return self.copy()
 
+    def make_hss(self, height, ots, ident, seed):
+        self.made = lms.SecretKey.make_hss(ident, seed, number(ots), number(height))
+        return self.copy()
+
     def copy(self):
         return self.made.public().bytes().hex()
 
@@ -159,7 +170,7 @@ class Calls:
             key = lms.PublicKey.read(data)
         except KeyFault as fault:
             return fault.name
-        return f"{key.ident.hex()} {key.leaves()} {lms.lms_length(key.upper.ots, key.h)} {key.bytes().hex()}"
+        return f"{key.ident.hex()} {key.leaves()} {signature_length(key)} {key.bytes().hex()}"
 
     def leaf(self, key, signature):
         return or_none(lms.leaf_number(lms.PublicKey.read(key), signature), str)
@@ -321,6 +332,42 @@ class Calls:
             return forms.form("BadJournal", str(fault.index))
         return store.answer(parse_query(query.decode())).hex()
 
+    # worlds
+
+    def world(self, clients):
+        self.begun = World(self.made, number(clients))
+        return self.come_to()
+
+    def come_to(self):
+        """What the world is, whose journal is kept."""
+        self.kept = bytes(self.begun.disk.data)
+        released = "".join(f" {rec.version}" for rec in self.begun.released)
+        accepted = "".join(f" {client}:{version}" for client, _, _, version in self.begun.accepted)
+        return f"journal {len(self.kept)} entries {len(self.begun.journal.entries())} released{released} accepted{accepted}"
+
+    def commit(self, batch, proofs):
+        return f"{said_form(*self.begun.commit(read_batch(batch), proofs))} {self.come_to()}"
+
+    def crash(self, image):
+        return f"{said_form(*self.begun.crash(image))} {self.come_to()}"
+
+    def receive(self, client, query, data):
+        if number(client) >= len(self.begun.clients):
+            return "no such line"
+        return f"{said_form(*self.begun.receive(number(client), query_of(query.decode()), data))} {self.come_to()}"
+
+
+# parsed once of the same text
+query_of = functools.lru_cache(maxsize=256)(parse_query)
+
+
+def said_form(word, *about):
+    """What is said of an event of a world."""
+    shown = {"Denied": owner_fault_form, "Refused": forms.check_fault, "Accepted": forms.answer}
+    if word in shown:
+        return shown[word](*about)
+    return forms.form(word.lower(), *map(str, about)) if about else word
+
 
 def roots_text(roots):
     return f"{roots.version} {catalog_text(roots.catalog)}"
@@ -361,12 +408,19 @@ def pieces_of(data, kept):
     if len(kept) >= 64 and kept in data:
         front, back = data.split(kept, 1)
         return "+".join([*some_digits(front), f"0..{len(kept)}", *some_digits(back)])
-    front = len(os.path.commonprefix([data, kept]))
-    back = len(os.path.commonprefix([data[front:][::-1], kept[front:][::-1]]))
+    front = shared(data, kept)
+    back = shared(data[front:][::-1], kept[front:][::-1])
     if front + back < 64:
         return digits(data)
     ends = [f"0..{front}"] * (front > 0), [f"{len(kept) - back}..{len(kept)}"] * (back > 0)
     return "+".join([*ends[0], *some_digits(data[front:len(data) - back]), *ends[1]])
+
+
+def shared(data, other):
+    """How many bytes both begin with."""
+    length = min(len(data), len(other))
+    differ = int.from_bytes(data[:length], "big") ^ int.from_bytes(other[:length], "big")
+    return length - (differ.bit_length() + 7) // 8
 
 
 def some_digits(data):

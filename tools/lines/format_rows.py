@@ -147,6 +147,110 @@ def high_rows():
     yield from verified_rows(secret.public().bytes(), secret.sign(700, RECORD))
 
 
+def pair_key_rows():
+    """Keys of two levels."""
+    # every height, and every length of chains, and typecodes beside them
+    for tree in range(4, 11):
+        yield "key", lm_ots.u32(2) + key_bytes(tree, 4, b"\x09" * 32)
+    for ots in range(0, 6):
+        yield "key", lm_ots.u32(2) + key_bytes(5, ots, b"\x09" * 32)
+    # other numbers of levels, and other lengths
+    for levels in 0, 1, 3, 1 << 24:
+        yield "key", lm_ots.u32(levels) + key_bytes(5, 4, b"\x09" * 32)
+    for length in 57, 59, 61, 64:
+        yield "key", (lm_ots.u32(2) + key_bytes(5, 4, bytes(40)))[:length]
+
+
+def pair_rows():
+    """Keys of two levels with every set, and what they sign."""
+    for ots in SETS:
+        yield "make_hss", LEAF, ots, ID, SEED
+        for place in 1, 63:
+            yield "node", bytes([place])
+        # past the last leaf, and far past it
+        yield "sign", b"\4\0", RECORD
+        yield "sign", b"\xff" * 8, RECORD
+        secret = lms.SecretKey.make_hss(ID, SEED, number(ots), 5)
+        yield "sign", b"\x25", RECORD
+        yield from verified_pair_rows(secret, 37)
+    # the first and the last leaf of a lower tree, the first one of the next, and the last of all
+    secret = lms.SecretKey.make_hss(ID, SEED, 3, 5)
+    yield "make_hss", LEAF, b"\x03", ID, SEED
+    yield "copy",
+    for version in 0, 31, 32, 1023:
+        yield "sign", version.to_bytes(2, "big"), RECORD
+        yield "verify", secret.public().bytes(), RECORD, secret.sign(version, RECORD)
+        yield "leaf", secret.public().bytes(), secret.sign(version, RECORD)
+    yield from turned_pair_rows(secret)
+    yield from exchanged_rows(secret)
+
+
+def verified_pair_rows(secret, version):
+    public, signature = secret.public().bytes(), secret.sign(version, RECORD)
+    # the places of both leaves, and a byte less than the second one has
+    lower = len(signature) // 2 + 30
+    yield "leaf", public, signature
+    yield "leaf", public, signature[:lower + 4]
+    yield "leaf", public, signature[:lower + 3]
+    yield "leaf", public, b"\xff" * (lower + 4)
+    yield "verify", public, RECORD, signature
+    # of another message, under another key, under the key of its own lower tree, and of one level
+    yield "verify", public, OTHER, signature
+    yield "verify", turned(public, 59), RECORD, signature
+    yield "verify", public[:28] + bytes(32), RECORD, signature
+    yield "verify", lm_ots.u32(2) + signature[lower - 56:lower], RECORD, signature
+    yield "verify", public[4:], RECORD, signature
+    # its parts: the upper signature of the lower key, and the lower one of the message
+    yield "verify", public[4:], signature[lower - 56:lower], signature[4:lower - 56]
+    yield "verify", signature[lower - 56:lower], RECORD, signature[lower:]
+    # the signature of one level by the same leaf of the same seed
+    yield "verify", public, RECORD, secret.upper().sign(version % 32, RECORD)
+
+
+# where the upper signature, the lower key and the lower signature stand in one of 67 digits twice
+PAIR_CUTS = 4, 2352, 2408
+
+
+def turned_pair_rows(secret):
+    """A signature of 67 digits twice, by the last leaf of the second lower tree, changed."""
+    public, signature = secret.public().bytes(), secret.sign(63, RECORD)
+    yield "sign", b"\x3f", RECORD
+    yield "verify", public, RECORD, signature
+    # in the number of levels; in the upper signature's leaf, typecodes, randomizer, digits and path
+    upper, key, lower = PAIR_CUTS
+    tree = 0, 3, 4, 7, 8, 40, 2183, 2187, 2188, 2347
+    # the lower key's typecodes, identifier and root, and the lower signature
+    for at in 0, 3, *(upper + at for at in tree), *(key + at for at in (3, 7, 8, 23, 24, 55)), *(lower + at for at in tree):
+        yield "verify", public, RECORD, turned(signature, at)
+        yield "leaf", public, turned(signature, at)
+    # longer, shorter, without its number, and by leaves that the trees have not
+    for data in signature + b"\0", signature[:-1], signature[4:], b"":
+        yield "verify", public, RECORD, data
+    yield "verify", public, RECORD, signature[:4] + lm_ots.u32(32 + 1) + signature[8:]
+    yield "verify", public, RECORD, signature[:lower] + lm_ots.u32(32 + 31) + signature[lower + 4:]
+    # typecodes of another set in the lower key, whose signature is of that set and valid
+    other = lms.tree_of(ID, SEED, 2, 5)
+    for upper_tree in secret.upper(), other:
+        upper_part = upper_tree.sign(1, other.public().bytes())
+        data = lm_ots.u32(1) + upper_part + other.public().bytes() + other.sign(31, RECORD)
+        yield "verify", public, RECORD, data
+        yield "leaf", public, data
+
+
+def exchanged_rows(secret):
+    """Parts of signatures of one key and of two, exchanged."""
+    other = lms.SecretKey.make_hss(ID, bytes(32), 3, 5)
+    public, (_, key, lower) = secret.public().bytes(), PAIR_CUTS
+    for first, second in ((secret.sign(31, RECORD), secret.sign(32, RECORD)), (secret.sign(3, RECORD), secret.sign(4, RECORD)),
+                          (secret.sign(33, RECORD), other.sign(33, RECORD)), (secret.sign(33, RECORD), secret.sign(33, OTHER))):
+        yield "keep", first + second
+        for at in key, lower:
+            yield "verify", public, RECORD, first[:at] + second[at:]
+            yield "verify", public, RECORD, second[:at] + first[at:]
+        # the lower key alone
+        yield "verify", public, RECORD, first[:key] + second[key:lower] + first[lower:]
+
+
 def root_of(tree, leaf, path, ots, seed):
     """The root that a path leads to from a leaf's one-time key."""
     place = (1 << lms.HEIGHTS[tree]) + leaf
@@ -395,6 +499,36 @@ def journal_rows():
     yield seal_row(CREATE, INSERTS[0], INSERTS[1] + INSERTS[0])
 
 
+def pair_journal_rows():
+    """Journals under a key of two levels: of three batches, and over the border of two lower trees."""
+    secret = lms.SecretKey.make_hss(ID, OWNER_SEED, 4, 5)
+    public = secret.public().bytes()
+    yield "make_hss", LEAF, b"\x04", ID, OWNER_SEED
+    yield "start",
+    journal = seal_batches(secret, batches_of(CREATE, *INSERTS))
+    yield seal_row(CREATE, *INSERTS)
+    yield "entries", journal
+    for version in 3, 4:
+        yield "owned", public, bytes([version]), journal
+    # under the key of one level of the same seed
+    yield "owned", public[4:], b"\3", journal
+    yield "taken", public[4:], journal
+    # in a lower signature, a lower key and an upper signature of the last entry
+    for back in 40, 1350, 1500:
+        yield "owned", public, b"\0", turned(journal, len(journal) - 1 - back)
+        yield "taken", public, turned(journal, len(journal) - 1 - back)
+    yield "replay", journal
+    yield "taken", public, journal
+    yield "answer", public, b"SELECT name FROM t WHERE id > 1", journal
+    over = Owned(secret, *[CREATE, CHANGES[2]] * 16)
+    yield "keep", over.journal()
+    for version in 31, 32, 33:
+        yield "owned", public, bytes([version]), over.journal()
+    yield "taken", public, over.journal()
+    yield "replay", over.journal()
+    yield "step", over.journal(), bytes_of(CREATE), over.proofs(CREATE)
+
+
 def read_rows(public, journal):
     """The journal of three batches, whole and with a byte changed."""
     yield "entries", journal
@@ -635,6 +769,8 @@ def rows():
     yield from one_time_rows()
     yield from public_rows()
     yield from secret_rows()
+    yield from pair_key_rows()
+    yield from pair_rows()
     yield from high_rows()
     yield from value_rows()
     yield from catalog_rows()
@@ -644,6 +780,7 @@ def rows():
     yield from slot_rows()
     yield from limit_rows()
     yield from journal_rows()
+    yield from pair_journal_rows()
     yield from owner_rows()
     yield from answer_rows()
     yield from image_rows()

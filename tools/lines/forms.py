@@ -84,6 +84,17 @@ def rows(lists):
     return list_of(map(values, lists))
 
 
+def check_fault(fault):
+    """Why a client refuses a reply, with what it goes by and what the reply has."""
+    fields = [octets(field) if isinstance(field, (bytes, str)) else str(field) for field in fault.fields.values()]
+    return form(fault.name, *fields) if fields else fault.name
+
+
+def answer(thing):
+    """What a reply answers that a client accepts."""
+    return form("answer", str(thing.version), outcome(thing.outcome))
+
+
 def reference_in(text):
     return Ref(*text.split(".")) if "." in text else Ref(None, text)
 

@@ -19,7 +19,6 @@
 #![tactic(auto)]
 
 mod answers;
-mod check_faults;
 mod file_checks;
 mod line;
 mod reply_checks;

@@ -1,5 +1,4 @@
 //! The checks of a reply that is at hand, whole and in pieces.
-use crate::check_faults::form_of_fault;
 use crate::line::Pieces;
 use crate::state::State;
 use line_pieces::{NoAnswer, form_of};
@@ -103,16 +102,8 @@ fn answer_text(
     client: &Client,
     answer: Result<Answer, CheckFault>,
 ) -> Result<String, NoAnswer> {
-    let form = match &answer {
-        Ok(answer) => form_of_answer(alloc, answer),
-        Err(fault) => form_of_fault(alloc, fault),
-    };
+    let form = form_of(alloc, &answer);
     // By a call, how an answer is let go of is spelled out nowhere here.
     drop(answer);
     Ok(format!(in alloc; "{} least {}", form?, client.least())?)
-}
-
-fn form_of_answer(alloc: Global, answer: &Answer) -> Result<String, AllocError> {
-    let outcome = form_of(alloc, &answer.outcome)?;
-    format!(in alloc; "(answer {} {outcome})", answer.version)
 }

@@ -1,8 +1,7 @@
 //! What lines leave to those after them.
 use crate::line::Splice;
-use line_pieces::{NoAnswer, form_of};
+use line_pieces::{NoAnswer, form_of, query_in};
 use lms_sign::PublicKey;
-use sql_text::parse_query;
 use std::alloc::Global;
 use vo_spec::QueryText;
 
@@ -74,12 +73,5 @@ impl State {
 
     fn length_text(&self, alloc: Global) -> Result<String, NoAnswer> {
         Ok(format!(in alloc; "{} bytes", self.reply.len())?)
-    }
-}
-
-fn query_in(alloc: Global, text: &[u8]) -> Result<QueryText, NoAnswer> {
-    match str::from_utf8(text) {
-        Ok(text) => parse_query(alloc, text).or(Err(NoAnswer::NoSuchLine)),
-        Err(_) => Err(NoAnswer::NoSuchLine),
     }
 }

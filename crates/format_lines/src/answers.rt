@@ -14,6 +14,7 @@ use crate::state::{State, keep};
 use line_pieces::NoAnswer;
 use std::alloc::Global;
 use std::io;
+use vo_spec::Levels;
 
 /// The answer to a line.
 pub fn answer(alloc: Global, state: &mut State, line: &str) -> io::Result<String> {
@@ -39,7 +40,8 @@ fn answer_call(
     match call {
         Call::Keep => keep(alloc, state, strings),
         Call::OtsSign => ots_sign(alloc, state, strings),
-        Call::Make => make(alloc, state, strings),
+        Call::Make => make(alloc, state, Levels::One, strings),
+        Call::MakeHss => make(alloc, state, Levels::Two, strings),
         Call::Copy => copy(alloc, state),
         Call::Node => node(alloc, state, strings),
         Call::Sign => sign(alloc, state, strings),

@@ -33,10 +33,10 @@ pub fn small_number_of(bytes: &[u8]) -> Result<u32, NoAnswer> {
     }
 }
 
-/// The column of this one byte.
-pub fn column_of(bytes: &[u8]) -> Result<u8, NoAnswer> {
-    let [column] = array_of::<1>(bytes)?;
-    Ok(column)
+/// The one byte that all the bytes are.
+pub fn byte_of(bytes: &[u8]) -> Result<u8, NoAnswer> {
+    let [byte] = array_of::<1>(bytes)?;
+    Ok(byte)
 }
 
 /// The one-time parameter set of a typecode.

@@ -14,6 +14,7 @@ pub enum Call {
     OtsSign,
     Candidate,
     Make,
+    MakeHss,
     Copy,
     Node,
     Sign,
@@ -49,7 +50,7 @@ pub enum Call {
 }
 
 /// The calls by their words.
-const CALLS: [(&str, Call); 42] = [
+const CALLS: [(&str, Call); 43] = [
     ("digest", Call::Digest),
     ("hash", Call::Hash),
     ("collision", Call::Collision),
@@ -59,6 +60,7 @@ const CALLS: [(&str, Call); 42] = [
     ("ots_sign", Call::OtsSign),
     ("candidate", Call::Candidate),
     ("make", Call::Make),
+    ("make_hss", Call::MakeHss),
     ("copy", Call::Copy),
     ("node", Call::Node),
     ("sign", Call::Sign),

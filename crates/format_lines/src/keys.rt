@@ -1,34 +1,42 @@
 //! Calls of keys: the secret key that was made last, and public keys.
+ghost use Rattle.std.specs.Prelude.{◌≡◌, ◌⊎◌, IfOk};
+
 use crate::arguments::{array_of, number_of, set_of, small_number_of};
 use crate::hashing::hex_digest;
 use crate::state::State;
 use line_pieces::NoAnswer;
-use lms_sign::{KeyFault, OtsType, PublicKey, SecretKey, SignFault, verify as verifies};
+use lms_sign::{KeyFault, PublicKey, SecretKey, SignFault, verify as verifies};
 use std::alloc::Global;
+use vo_spec::Levels;
 
-/// The public key of the secret key that is made, which is kept.
-pub fn make(alloc: Global, state: &mut State, strings: &[Vec<u8>]) -> Result<String, NoAnswer> {
+/// The public key of the secret key of so many levels that is made, which is kept.
+pub fn make(
+    alloc: Global,
+    state: &mut State,
+    levels: Levels,
+    strings: &[Vec<u8>],
+) -> Result<String, NoAnswer> {
     let [height, set, id, seed] = strings else {
         return Err(NoAnswer::NoSuchLine);
     };
+    let height = height_of(height)?;
     let id = array_of::<16>(id)?;
     let seed = array_of::<32>(seed)?;
-    let key = key_of(alloc, id, seed, set_of(set)?, number_of(height)?)?;
+    let key = match levels {
+        Levels::One => SecretKey::make(alloc, id, seed, set_of(set)?, height)?,
+        Levels::Two => SecretKey::make_hss(alloc, id, seed, set_of(set)?, height)?,
+    };
     state.keep_key(key);
     public_key_text(alloc, state.secret()?)
 }
 
-/// Keys are made of these heights alone.
-fn key_of(
-    alloc: Global,
-    id: [u8; 16],
-    seed: [u8; 32],
-    set: OtsType,
-    height: u64,
-) -> Result<SecretKey, NoAnswer> {
-    match height {
-        5 => Ok(SecretKey::make(alloc, id, seed, set, 5)?),
-        10 => Ok(SecretKey::make(alloc, id, seed, set, 10)?),
+/// Keys are made of two heights alone.
+fn height_of(bytes: &[u8]) -> Result<u32, NoAnswer>
+    ensures { IfOk result (λ height. (height ≡ 5) ⊎ (height ≡ 10)) }
+{
+    match number_of(bytes)? {
+        5 => Ok(5),
+        10 => Ok(10),
         _ => Err(NoAnswer::NoSuchLine),
     }
 }
@@ -44,7 +52,7 @@ pub fn copy(alloc: Global, state: &mut State) -> Result<String, NoAnswer> {
     public_key_text(alloc, state.secret()?)
 }
 
-/// A node of the key's tree.
+/// A node of the key's tree, of the upper one where there are two.
 pub fn node(alloc: Global, state: &State, strings: &[Vec<u8>]) -> Result<String, NoAnswer> {
     let [number] = strings else {
         return Err(NoAnswer::NoSuchLine);
@@ -54,7 +62,7 @@ pub fn node(alloc: Global, state: &State, strings: &[Vec<u8>]) -> Result<String,
     if number < 1 || number > 63 {
         return Err(NoAnswer::NoSuchLine);
     }
-    hex_digest(alloc, state.secret()?.node(number))
+    hex_digest(alloc, state.secret()?.tree().node(number))
 }
 
 /// The key's signature of a message by a leaf, which is kept.

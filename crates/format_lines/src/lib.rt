@@ -10,9 +10,9 @@
 //! - One-time signatures, of a type: `digit` of bytes, `checksum` of a digest, `ots_public` and
 //!   `ots_sign` of an identifier, a leaf and a seed, and `candidate` of an identifier, a leaf, a
 //!   message and a signature.
-//! - Keys: `make` of a height, a type, an identifier and a seed has the key that `copy`, `node`,
-//!   `sign`, `seal`, `start`, `step` and `replay` take; `key` reads a public key, `leaf` names the
-//!   leaf of a signature, and `verify` judges it.
+//! - Keys: `make` of a height, a type, an identifier and a seed has the key of one level that
+//!   `copy`, `node`, `sign`, `seal`, `start`, `step` and `replay` take, and `make_hss` that of two;
+//!   `key` reads a public key, `leaf` names the leaf of a signature, and `verify` judges it.
 //! - Rows: `value`, `attribute`, `cell`, `row`, `closed` and `whole` are digests; `hide` and
 //!   `hide_cells` hide the values but those of some columns.
 //! - Formats: `catalog`, `record`, `reply` and `proofs` read and write again, `begin` begins the

@@ -89,7 +89,7 @@ fn catalog_in(alloc: Global, bytes: &[u8]) -> Result<Catalog, NoAnswer>
     }
 }
 
-fn owner_fault_text(alloc: Global, fault: OwnerFault) -> Result<String, NoAnswer> {
+pub(crate) fn owner_fault_text(alloc: Global, fault: OwnerFault) -> Result<String, NoAnswer> {
     match fault {
         OwnerFault::Command { index, fault } => {
             let fault = form_of(alloc, &fault)?;

@@ -7,9 +7,8 @@ ghost use Rattle.vo_format.specs.View.{reply_of};
 use crate::arguments::array_of;
 use crate::keys::read_key;
 use crate::records::read_fault;
-use line_pieces::NoAnswer;
+use line_pieces::{NoAnswer, query_in};
 use lms_sign::PublicKey;
-use sql_text::parse_query;
 use std::alloc::Global;
 use vo_format::{
     PartTree, Reply, begin_proofs, read_proofs, read_reply, write_proofs, write_reply,
@@ -80,17 +79,10 @@ pub fn answer_by(alloc: Global, strings: &[Vec<u8>]) -> Result<String, NoAnswer>
         return Err(NoAnswer::NoSuchLine);
     };
     let key = read_key(key)?;
-    let Ok(query) = str::from_utf8(query) else {
-        return Err(NoAnswer::NoSuchLine);
-    };
-    match parse_query(alloc, query) {
-        Ok(query) => {
-            let answer = answer_to(alloc, key, &query, journal);
-            drop(query);
-            answer
-        }
-        Err(_) => Err(NoAnswer::NoSuchLine),
-    }
+    let query = query_in(alloc, query)?;
+    let answer = answer_to(alloc, key, &query, journal);
+    drop(query);
+    answer
 }
 
 fn answer_to(

@@ -1,7 +1,7 @@
 //! Calls of values and rows.
 ghost use Rattle.vo_spec.specs.Fits.{FitsCells, FitsRow, FitsRowPart};
 
-use crate::arguments::{column_of, digest_in};
+use crate::arguments::{byte_of, digest_in};
 use crate::hashing::hex_digest;
 use crate::reading::{read_cell, read_row, read_value, read_values};
 use attr_digest::{
@@ -28,7 +28,7 @@ pub fn attribute(alloc: Global, strings: &[Vec<u8>]) -> Result<String, NoAnswer>
     let [column, value] = strings else {
         return Err(NoAnswer::NoSuchLine);
     };
-    hex_digest(alloc, attr_digest(column_of(column)?, read_value(value)?))
+    hex_digest(alloc, attr_digest(byte_of(column)?, read_value(value)?))
 }
 
 /// The digest of a cell in a column.
@@ -36,7 +36,7 @@ pub fn cell(alloc: Global, strings: &[Vec<u8>]) -> Result<String, NoAnswer> {
     let [column, cell] = strings else {
         return Err(NoAnswer::NoSuchLine);
     };
-    hex_digest(alloc, cell_digest(column_of(column)?, &read_cell(cell)?))
+    hex_digest(alloc, cell_digest(byte_of(column)?, &read_cell(cell)?))
 }
 
 /// The digest of a row of these cells.

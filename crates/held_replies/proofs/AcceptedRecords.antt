@@ -1,10 +1,8 @@
 -- A reply that no test refuses has a signed record.
-use Rattle.std.proofs.Common.{◌≡◌, ℕ, ◌≤◌, ◌==◌, Bool, true, false, if◌then◌else◌, List, ◌∷◌, length, Option, Some, None, Result, Ok, Err, IfOk, refl, ap, ◌∙◌, ◌⊎◌, inl, inr, arith}
+use Rattle.std.proofs.Common.{◌≡◌, ℕ, ◌≤◌, ◌==◌, Bool, true, false, if◌then◌else◌, List, ◌∷◌, length, Option, Some, None, Result, Ok, Err, IfOk, refl, sym, ap, ◌∙◌, ◌⊎◌, inl, inr, arith}
 use Rattle.std.specs.Prelude.{nat_lt, nat_le, option_and_then}
 use Rattle.std.proofs.lemmas.Bool.{and_parts, eqb-true}
 use Rattle.std.proofs.lemmas.Bool.Decides.{nat_tests}
-use Rattle.vo_spec.specs.declared.signatures.OtsType.{OtsType}
-use Rattle.vo_spec.specs.declared.signatures.LmsType.{LmsType}
 use Rattle.vo_spec.specs.declared.checks.Answer.{Answer}
 use Rattle.vo_spec.specs.declared.checks.CheckFault.{CheckFault}
 use Rattle.vo_spec.specs.declared.checks.CheckFault.TheVariants.{Memory, WrongLeaf, Stale}
@@ -12,10 +10,10 @@ use Rattle.vo_spec.specs.Firsts.{first_some, unless}
 use Rattle.vo_spec.specs.Conditions.{Query}
 use Rattle.vo_spec.specs.Records.{record_bytes}
 use Rattle.vo_spec.specs.Replies.{Reply, IsReply, max_reply}
-use Rattle.vo_spec.specs.LmsSets.{lms_signature_len}
-use Rattle.vo_spec.specs.Lms.{key_lms, key_ots, key_id, key_root, is_lms_form, is_valid_under, is_valid_by, lms_valid, leaf_of}
+use Rattle.vo_spec.specs.Keys.{lms_valid, leaf_of}
 use Rattle.vo_spec.specs.Checks.{key_fault, leaf_fault, signature_fault, age_fault, check_fault, seen_outcome, answer_to, CheckOf}
 use Rattle.vo_spec.specs.Owners.{IsSigned}
+use Rattle.lms_sign.proofs.ValidSignatures.{told_of_valid}
 use Rattle.held_replies.specs.Accepting.{IsSignedReply}
 
 -- no test of a list refuses
@@ -31,33 +29,11 @@ not_refused : (b : Bool) (f : CheckFault) → (if b then Some f else None) ≡ N
 not_refused true f e = absurd cc
 not_refused false f e = refl
 
--- a valid signature is long enough to name its leaf
-
-long_form : (lms : LmsType) (ots : OtsType) (signature : List ℕ) → is_lms_form lms ots signature ≡ true → 4 ≤ length signature
-unfolding is_lms_form
-long_form lms ots signature e =
-    let size : length signature ≡ lms_signature_len lms ots = eqb-true (length signature) (lms_signature_len lms ots) (and_parts _ _ (and_parts _ _ e).0).0 in omega (arith, size)
-
-long_by : (lms : Option LmsType) (ots : Option OtsType) (id root message signature : List ℕ) → is_valid_by lms ots id root message signature ≡ true → 4 ≤ length signature
-unfolding is_valid_under
-long_by (Some lms) (Some ots) id root message signature e = long_form lms ots signature (and_parts _ _ (and_parts _ _ e).0).0
-long_by (Some lms) None id root message signature e = absurd cc
-long_by None ots id root message signature e = absurd cc
-
-long : (key message signature : List ℕ) → lms_valid key message signature ≡ true → 4 ≤ length signature
-unfolding lms_valid
-long key message signature e = long_by (key_lms key) (key_ots key) (key_id key) (key_root key) message signature (and_parts _ _ e).1
-
-there : (b : Bool) (x : ℕ) → b ≡ true → (if b then Some x else None) ≡ None → ⊥
-there true x b e = absurd cc
-there false x b e = absurd cc
-
 has_leaf : (key message signature : List ℕ) → lms_valid key message signature ≡ true → leaf_of key signature ≡ None → ⊥
-unfolding leaf_of
-has_leaf key message signature valid e =
-    let size : 4 ≤ length signature = long key message signature valid in
-    let some : nat_le 4 (length signature) ≡ true = grind (arith, nat_tests) in
-    there (nat_le 4 (length signature)) _ some e
+has_leaf key message signature valid none = not_none (sym (told_of_valid key message signature valid).leaf_is ∙ none)
+  where
+    not_none : {q : ℕ} → Some q ≡ None → ⊥
+    not_none e = absurd cc
 
 module _ (key : List ℕ) (least : ℕ) (r : Reply) where
   by_leaf : (o : Option ℕ) → leaf_of key r.signature ≡ o → option_and_then (λ q. if q == r.rec.version then None else Some (WrongLeaf r.rec.version q)) o ≡ None

@@ -5,21 +5,9 @@ use Rattle.vo_spec.specs.declared.checks.CheckFault.TheVariants.{Stale, WrongLea
 use Rattle.vo_spec.specs.declared.records.Record.{Record}
 use Rattle.vo_spec.specs.Bytes.{u32_at, IsBytes}
 use Rattle.vo_spec.specs.Checks.{age_fault, leaf_fault}
-use Rattle.vo_spec.specs.Lms.{leaf_of}
+use Rattle.vo_spec.specs.Keys.{leaf_of}
 use Rattle.vo_spec.specs.Records.{no_tables}
 use Rattle.held_replies.specs.Testing.{bare_reply}
-
-some_if : (b : Bool) (x q : ℕ) → Some q ≡ (if b then Some x else None) → q ≡ x
-some_if true x q e = cc
-some_if false x q e = absurd cc
-
-u32_below : (bytes : List ℕ) → IsBytes bytes → u32_at bytes 0 < 2 ^ 32
-unfolding u32_at
-u32_below bytes h = omega (arith, h 0, h 1, h 2, h 3)
-
-pub leaf_below : (key signature : List ℕ) (q : ℕ) → IsBytes signature → Some q ≡ leaf_of key signature → q < 2 ^ 32
-unfolding leaf_of
-leaf_below key signature q h e = let P : ℕ → Type 0 = λ n. n < 2 ^ 32 in subst P (sym (some_if _ _ q e)) (u32_below signature h)
 
 -- a leaf that isn't the version's
 pub other_leaf : (key signature : List ℕ) (rec : Record) (q : ℕ) → leaf_of key signature ≡ Some q → (q ≡ rec.version → ⊥) → Some (WrongLeaf rec.version q) ≡ leaf_fault key (bare_reply rec signature no_tables)

@@ -1,6 +1,5 @@
 //! The tests of a reply's record: whose it is, how it is signed, and how old it is.
 ghost use Rattle.std.specs.Prelude.{◌≡◌, []};
-ghost use Rattle.vo_spec.specs.Lms.{leaf_of};
 ghost use Rattle.vo_spec.specs.Records.{no_tables};
 ghost use Rattle.vo_spec.specs.Checks.{key_fault, leaf_fault, signature_fault, age_fault};
 ghost use Rattle.held_replies.specs.Judging.{record_fault};
@@ -23,24 +22,13 @@ fn key_fault(key: &PublicKey, rec: &Record) -> Option<CheckFault>
     })
 }
 
-/// The leaf that the signature names.
-#[tactic(auto, unfolding(vo_spec::specs::Lms::leaf_of))]
-fn leaf_named(key: &PublicKey, signature: &[u8]) -> Option<u32>
-    ensures { result ≡ leaf_of key.now signature.now }
-{
-    match key.leaf_of(signature) {
-        Some(q) => Some(q as u32),
-        None => None,
-    }
-}
-
 /// A signature too short to name a leaf passes here.
 fn leaf_fault(key: &PublicKey, rec: &Record, signature: &[u8]) -> Option<CheckFault>
     ensures { result ≡ leaf_fault key.now (bare_reply rec.now signature.now no_tables) }
 {
     let version = rec.version;
-    match leaf_named(key, signature) {
-        Some(q) if u64::from(q) != version => Some(CheckFault::WrongLeaf { version, q }),
+    match key.leaf_of(signature) {
+        Some(q) if q != version => Some(CheckFault::WrongLeaf { version, q }),
         _ => None,
     }
 }

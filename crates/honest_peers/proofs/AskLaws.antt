@@ -1,5 +1,5 @@
 -- What `ask` comes to, step by step: the key, the query, the frame that comes, and its check.
-use Rattle.std.proofs.Common.{◌≡◌, ℕ, ◌≤◌, Bool, true, false, List, [], ◌∷◌, ◌++◌, length, Option, Some, None, Result, Ok, Err, refl, sym, ap, ◌∙◌, subst, inl, inr, arith, leb-true, le-leb}
+use Rattle.std.proofs.Common.{◌≡◌, ℕ, ◌≤◌, Bool, true, false, List, [], ◌∷◌, ◌++◌, length, Option, Some, None, Result, Ok, Err, refl, sym, ap, ◌∙◌, subst, inl, inr, arith, leb-true, le-leb, eqb-true}
 use Rattle.std.specs.Prelude.{◌↔◌, ◌==◌, ◌&&◌, IsTrue, nat_lt, nat_le, is_some, if◌then◌else◌}
 use Rattle.std.specs.Option.{option_map_or}
 use Rattle.std.specs.Str.{IsUtf8}
@@ -33,7 +33,8 @@ use Rattle.sql_text.proofs.QueryFits.{query_fits}
 use Rattle.sql_text.proofs.TokenEnds.{utf8_tokens}
 use Rattle.round_trips.specs.Trips.{plain_answer}
 use Rattle.vo_spec.specs.Honest.{honest_record, honest_reply}
-use Rattle.vo_spec.specs.Lms.{key_lms, key_ots}
+use Rattle.vo_spec.specs.declared.signatures.Levels.TheVariants.{One, Two}
+use Rattle.vo_spec.specs.Keys.{names_sets, is_key_by, is_public_key}
 use Rattle.vo_spec.specs.Replies.{max_reply, reply_bytes}
 use Rattle.honest_peers.proofs.Readings.{one_reply}
 use Rattle.store_requests.proofs.TextReadings.{text_read}
@@ -44,7 +45,7 @@ use Rattle.vo_store.specs.Calls.{answer_of, within_limit}
 use Rattle.vo_store.specs.HonestStores.{IsHonestAfter, IsInstalled, IsRecordOf}
 use Rattle.vo_store.specs.StoreState.{StoreState}
 use Rattle.vo_wire.specs.Answering.{KindAndBody, code_of, query_answer, reply_answer, reply_to}
-use Rattle.vo_commands.specs.Expected.{Allows, Checks, Expected, OfQuery, ask_expected, is_public_key, with_answer, with_key, with_reply}
+use Rattle.vo_commands.specs.Expected.{Allows, Checks, Expected, OfQuery, ask_expected, with_answer, with_key, with_reply}
 use Rattle.vo_commands.specs.Lines.{check_output, store_refusal}
 use Rattle.vo_commands.specs.Texts.{IsQueryText}
 use Rattle.vo_commands.proofs.QueryTexts.{has_byte}
@@ -76,10 +77,15 @@ and_first true b h = refl
 and_first false b h = absurd (cc)
 
 key_short : (key : List ℕ) → IsTrue (is_public_key key) → nat_lt 64 (length key) ≡ false
-key_short key h =
-    let long : IsTrue (length key == 56) = and_first (length key == 56) (is_some (key_lms key))
-    (and_first (length key == 56 && is_some (key_lms key)) (is_some (key_ots key)) h) in
-    grind (arith, nat_tests)
+unfolding is_public_key
+key_short key h = step (length key == 60) refl h
+  where
+    step : (b : Bool) → (length key == 60) ≡ b → IsTrue (is_key_by (if b then Two else One) key)
+        → nat_lt 64 (length key) ≡ false
+    step true e is = let long = eqb-true (length key) 60 e in grind (arith, nat_tests)
+    step false e is =
+        let long : IsTrue (length key == 56) = and_first (length key == 56) (names_sets key) is in
+        grind (arith, nat_tests)
 
 key_goes : (files : Files) (name key : List ℕ) → files name ≡ Some key → IsTrue (is_public_key key)
     → (rest : List ℕ → Expected) → with_key files name rest ≡ rest key

@@ -7,7 +7,6 @@ use Rattle.vo_spec.specs.declared.tables.Command.{Command}
 use Rattle.vo_spec.specs.declared.records.Entry.{Entry}
 use Rattle.vo_spec.specs.declared.tables.CommandFault.{CommandFault}
 use Rattle.vo_spec.specs.Batches.{FitsBatch}
-use Rattle.vo_spec.specs.LmsSets.{leaves_of}
 use Rattle.vo_spec.specs.Replies.{proofs_bytes}
 use Rattle.vo_spec.specs.Tables.{apply_batch, tables_after}
 use Rattle.vo_laws.specs.Sealing.{AreAcceptedAfter}
@@ -25,7 +24,7 @@ use Rattle.std.specs.List.{AllByRecursion}
 use Rattle.vo_spec.specs.Honest.{Stored, honest_proofs, honest_record, honest_trees, seal_batches, sealed_entry, work_all}
 use Rattle.vo_spec.specs.Journals.{FitsEntry, batches_of}
 use Rattle.vo_spec.specs.Owners.{AreLoadable}
-use Rattle.vo_spec.specs.Secret.{Secret, public_of_secret}
+use Rattle.vo_spec.specs.Secret.{Secret, public_of_secret, secret_leaves}
 use Rattle.vo_laws.specs.Sealing.{SignsValidly}
 use Rattle.owner_roots.specs.Owners.{first_roots, honest_roots, record_of_roots}
 use Rattle.round_trips.specs.Trips.{AreSealable}
@@ -72,7 +71,7 @@ pub begins : (secret : Secret) → SignsValidly secret
     (first_entry secret ∷ [])
 begins secret signs =
     let sealable : AreSealable secret [] =
-    record { signs = signs; fit = tt; accepted = tt; few = some_leaf secret.lms } in
+    record { signs = signs; fit = tt; accepted = tt; few = some_leaf secret } in
     record {
       key_is = refl;
       sealable = sealable;
@@ -130,7 +129,7 @@ steps_on secret batches batch all steps =
     let behind : Roots = honest_roots (length batches + 1) (honest_trees more) in
     let proofs : List ℕ = proofs_bytes (honest_proofs batch (honest_trees batches)) in
     let e : Entry = signed_entry secret behind batch proofs in
-    let left : length batches + 1 < leaves_of secret.lms = omega (arith, all.few, long) in
+    let left : length batches + 1 < secret_leaves secret = omega (arith, all.few, long) in
     let step : IsStepTo secret (honest_roots (length batches) (honest_trees batches)) e behind =
     step_made secret (honest_roots (length batches) (honest_trees batches)) batch proofs behind
     (record { entry = e; roots = behind }) left (leads batches batch parts.0 parts.1.0 ok) refl in

@@ -10,10 +10,9 @@ use Rattle.vo_spec.specs.declared.tables.Table.{Table}
 use Rattle.vo_spec.specs.Batches.{FitsBatch}
 use Rattle.vo_spec.specs.Honest.{Stored, after_work, honest_proofs, honest_trees, sealed_entry}
 use Rattle.vo_spec.specs.Journals.{FitsEntry, batches_of}
-use Rattle.vo_spec.specs.LmsSets.{leaves_of}
 use Rattle.vo_spec.specs.Owners.{AreLoadable, IsLoadableEntry}
 use Rattle.vo_spec.specs.Replies.{proofs_bytes}
-use Rattle.vo_spec.specs.Secret.{Secret, public_of_secret}
+use Rattle.vo_spec.specs.Secret.{Secret, public_of_secret, secret_leaves}
 use Rattle.vo_spec.specs.Tables.{apply_batch, tables_after}
 use Rattle.vo_laws.proofs.EntryLaws.{taken_grows}
 use Rattle.vo_laws.proofs.SealedLaws.{sealed_entry_is_loadable}
@@ -72,7 +71,7 @@ some_entries (f ∷ es) batches e = omega arith
 
 module _ (secret : Secret) (laws : StoreLaws) (later : StoreState) (ending : Ending) where
   abbrev leaves : ℕ
-  leaves = leaves_of secret.lms
+  leaves = secret_leaves secret
 
   -- The owner refuses the batch, and the session ends.
   refuses : (batches : List (List Command)) (held : Held) (es : List Entry) (batch : Batch)
@@ -133,14 +132,14 @@ module _ (secret : Secret) (laws : StoreLaws) (later : StoreState) (ending : End
     version_is : held.roots.version ≡ length batches
     version_is = ap (λ (r : Roots). r.version) own.roots
 
-    leaves_are : leaves_of held.key.lms ≡ leaves
-    leaves_are = ap (λ (k : Secret). leaves_of k.lms) own.key_is
+    leaves_are : secret_leaves held.key ≡ leaves
+    leaves_are = ap (λ (k : Secret). secret_leaves k) own.key_is
 
-    spent_comes : leaves_of held.key.lms ≤ held.roots.version + 1 → ending ≡ refused_with spent_key
+    spent_comes : secret_leaves held.key ≤ held.roots.version + 1 → ending ≡ refused_with spent_key
         → ComeTo leaves batches (commands_of (batch ∷ new)) ending batches
     spent_comes spent is = inl (omega (arith, spent, version_is, leaves_are), is, refl)
 
-    left_is : held.roots.version + 1 < leaves_of held.key.lms → length batches + 1 < leaves
+    left_is : held.roots.version + 1 < secret_leaves held.key → length batches + 1 < leaves
     left_is left = omega (arith, left, version_is, leaves_are)
 
     -- roots of the owner by those of the store's tables

@@ -1,5 +1,5 @@
 -- What a disk keeps through runs and stops of the machine.
-use Rattle.std.proofs.Common.{◌≡◌, ℕ, zero, suc, ◌<◌, List, [], ◌∷◌, ◌++◌, length, Option, Some, None, option_map, slice_get, inl, inr, refl, sym, ap, subst, ◌∙◌, arith}
+use Rattle.std.proofs.Common.{◌≡◌, ℕ, zero, suc, ◌<◌, List, [], ◌∷◌, ◌++◌, length, Option, Some, slice_get, inl, inr, refl, sym, subst, arith}
 use Rattle.std.specs.Prelude.{◌⊎◌, All, Contains, map, slice_index_or}
 use Rattle.std.specs.List.{AllByRecursion}
 use Rattle.outside.specs.DiskModel.{DiskModel, MayLeave, fresh}
@@ -21,40 +21,8 @@ use Rattle.outside.specs.ConnectionModel.{ConnectionModel}
 use Rattle.vo_spec.specs.Secret.{Secret}
 use Rattle.honest_peers.specs.Crashes.{GoesThrough, HoldsEach, KeepsReleased, IsStage, StopsBehind, StopsInUse, put_from, put_in, put_online, records_in}
 use Rattle.owner_state.proofs.JournalLaws.{one_journal}
+use Rattle.honest_peers.proofs.HeldLaws.{both, each, held_entry, held_in_front, none_held, one_held, one_of}
 use Rattle.owner_journal.proofs.RestLaws.{rest_holds}
-
--- Journals that hold records.
-
-found_in_front : (es more : List Entry) (v : ℕ) (e : Entry) → slice_get es v ≡ Some e → slice_get (es ++ more) v ≡ Some e
-found_in_front [] more v e found = absurd (cc)
-found_in_front (f ∷ es) more zero e found = found
-found_in_front (f ∷ es) more (suc v) e found = found_in_front es more v e found
-
--- the entry that has the record
-held_entry : (es : List Entry) (r : Record) → Holds es r → (e : Entry) × (slice_get es r.version ≡ Some e) × (e.rec ≡ r)
-unfolding Holds
-held_entry es r holds = by (slice_get es r.version) refl
-  where
-    by : (o : Option Entry) → slice_get es r.version ≡ o → (e : Entry) × (slice_get es r.version ≡ Some e) × (e.rec ≡ r)
-    by None is = absurd (cc)
-    by (Some e) is = (e, is, cc)
-
-held_at : (es : List Entry) (r : Record) (e : Entry) → slice_get es r.version ≡ Some e → e.rec ≡ r → Holds es r
-unfolding Holds
-held_at es r e found is = ap (option_map (λ (x : Entry). x.rec)) found ∙ ap Some is
-
-pub held_in_front : (es more : List Entry) (r : Record) → Holds es r → Holds (es ++ more) r
-held_in_front es more r holds =
-    let at = held_entry es r holds in
-    held_at (es ++ more) r at.0 (found_in_front es more r.version at.0 at.1) at.2
-
-one_held : (es : List Entry) (a b : Record) → Holds es a → Holds es b → a.version ≡ b.version → a ≡ b
-unfolding Holds
-one_held es a b first second same = cc
-
-none_held : (r : Record) → Holds [] r → ⊥
-unfolding Holds
-none_held r holds = absurd (cc)
 
 -- What a stop leaves.
 
@@ -65,33 +33,17 @@ Has image r = (es : List Entry) × IsJournal image es × Holds es r
 abbrev pub HasEach : List Record → List ℕ → Type 0
 HasEach released image = AllByRecursion (Has image) released
 
-each : {P Q : Record → Type 0} (released : List Record) → ((r : Record) → P r → Q r) → AllByRecursion P released → AllByRecursion Q released
-each [] step all = tt
-each (r ∷ released) step all = (step r all.0, each released step all.1)
-
-both : (P : Record → Type 0) (a b : List Record) → AllByRecursion P a → AllByRecursion P b → AllByRecursion P (a ++ b)
-both P [] b first second = second
-both P (r ∷ a) b first second = (first.0, both P a b first.1 second)
-
-one_of : (P : Record → Type 0) (released : List Record) (r : Record) → AllByRecursion P released → Contains released r → P r
-one_of P released r all one = at released all one.0 one.1 one.2
-  where
-    at : (rs : List Record) → AllByRecursion P rs → (k : ℕ) → k < length rs → slice_index_or rs k r ≡ r → P r
-    at [] all k within is = absurd (omega (arith, within))
-    at (x ∷ rs) all zero within is = subst P is all.0
-    at (x ∷ rs) all (suc k) within is = at rs all.1 k (omega (arith, within)) is
-
 -- bytes that are a journal of entries which hold the records
 pub has_each : (image : List ℕ) (es : List Entry) (released : List Record) → IsJournal image es → HoldsEach es released → HasEach released image
-has_each image es released is = each released (λ r holds. (es, is, holds))
+has_each image es released is = each _ _ released (λ r holds. (es, is, holds))
 
 -- the entries of such bytes hold them
 pub holds_each : (image : List ℕ) (es : List Entry) (released : List Record) → IsJournal image es → HasEach released image → HoldsEach es released
 holds_each image es released is =
-    each released (λ r has. subst (λ (xs : List Entry). Holds xs r) (one_journal image has.0 es has.1 is) has.2)
+    each _ _ released (λ r has. subst (λ (xs : List Entry). Holds xs r) (one_journal image has.0 es has.1 is) has.2)
 
 pub holds_more : (es more : List Entry) (released : List Record) → HoldsEach es released → HoldsEach (es ++ more) released
-holds_more es more released = each released (held_in_front es more)
+holds_more es more released = each _ _ released (held_in_front es more)
 
 -- The disk: what reads give a stop may leave, and whatever a stop leaves holds the records.
 pub record IsSafe (released : List Record) (drive : DiskModel) : Type 0 where
@@ -153,7 +105,7 @@ kept_record drive entries r kept holds image left =
 
 kept_each : (drive : DiskModel) (entries : List Entry) (released : List Record) → All (KeepsEntry (Some drive)) entries → HoldsEach entries released
     → (image : List ℕ) → MayLeave drive image → HasEach released image
-kept_each drive entries released kept holds image left = each released (λ r held. kept_record drive entries r kept held image left) holds
+kept_each drive entries released kept holds image left = each _ _ released (λ r held. kept_record drive entries r kept held image left) holds
 
 -- the records that were put are of the journal's entries
 put_kept : (drive : DiskModel) (batches : List Batch) (entries : List Entry) (requests : List (Request Batch Entry)) → All (KeepsEntry (Some drive)) entries

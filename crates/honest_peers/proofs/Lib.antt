@@ -17,4 +17,5 @@ pub mod AnswerLaws
 pub mod OwnedSteps
 pub mod OneVerdict
 pub mod Judged
+pub mod HeldLaws
 pub mod CrashLaws

@@ -3,10 +3,9 @@ use Rattle.std.proofs.Common.{◌≡◌, ℕ, ◌<◌, List, [], ◌∷◌, leng
 use Rattle.vo_spec.specs.declared.tables.Command.{Command}
 use Rattle.vo_spec.specs.declared.records.Entry.{Entry}
 use Rattle.vo_spec.specs.Journals.{IsJournal}
-use Rattle.vo_spec.specs.LmsSets.{leaves_of}
 use Rattle.vo_spec.specs.Records.{record_bytes}
 use Rattle.vo_spec.specs.Replies.{proofs_bytes}
-use Rattle.vo_spec.specs.Secret.{Secret, public_of_secret}
+use Rattle.vo_spec.specs.Secret.{Secret, public_of_secret, secret_leaves}
 use Rattle.vo_laws.specs.Sealing.{SignsValidly}
 use Rattle.owner_roots.specs.declared.roots.Roots.{Roots}
 use Rattle.owner_roots.specs.Owners.{AreNextEntries, AreOwned, AreOwnedTo, IsFirstEntry, IsNextEntry, IsOwned, IsSignedFor, first_roots, record_of_roots}
@@ -21,7 +20,7 @@ module _ (secret : Secret) (signs : SignsValidly secret) where
   key = public_of_secret secret
 
   -- an entry is signed for its roots, where the key has a leaf for them
-  signed : (roots : Roots) (batch : List Command) (proofs : List ℕ) → roots.version < leaves_of secret.lms
+  signed : (roots : Roots) (batch : List Command) (proofs : List ℕ) → roots.version < secret_leaves secret
       → IsSignedFor key roots (signed_entry secret roots batch proofs)
   unfolding signed_entry
   signed roots batch proofs left =
@@ -33,7 +32,7 @@ module _ (secret : Secret) (signs : SignsValidly secret) where
   first_owned e is = subst (IsFirstEntry key) (sym is) (record {
     commands = refl;
     proofs = refl;
-    signed = signed first_roots [] (proofs_bytes []) (some_leaf secret.lms);
+    signed = signed first_roots [] (proofs_bytes []) (some_leaf secret);
   })
 
   abbrev step_with : Entry → Roots → Step
@@ -42,7 +41,7 @@ module _ (secret : Secret) (signs : SignsValidly secret) where
   step_owned : (before : Roots) (e : Entry) (after : Roots) → IsStepTo secret before e after → IsNextEntry key before e after
   step_owned before e after is =
       let parts = step_parts secret before e.batch.commands e.proofs (step_with e after) is in
-      let left : after.version < leaves_of secret.lms =
+      let left : after.version < secret_leaves secret =
       omega (arith, parts.left, next_version before e.batch.commands e.proofs after parts.next) in
       next_of_step secret before e.batch.commands e.proofs after e parts.entry parts.next
       (subst (IsSignedFor key after) (sym parts.entry) (signed after e.batch.commands e.proofs left))

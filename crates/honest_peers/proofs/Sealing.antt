@@ -11,11 +11,10 @@ use Rattle.vo_spec.specs.declared.tables.CommandFault.{CommandFault}
 use Rattle.vo_spec.specs.Batches.{FitsBatch}
 use Rattle.vo_spec.specs.Honest.{Stored, honest_proofs, honest_record, honest_trees, seal_batches, sealed_entry}
 use Rattle.vo_spec.specs.Journals.{FitsEntry, max_proofs}
-use Rattle.vo_spec.specs.LmsSets.{leaves_of}
 use Rattle.vo_spec.specs.Owners.{IsSigned}
 use Rattle.vo_spec.specs.Records.{record_bytes}
 use Rattle.vo_spec.specs.Replies.{proofs_bytes}
-use Rattle.vo_spec.specs.Secret.{Secret, lms_signature, public_of_secret}
+use Rattle.vo_spec.specs.Secret.{Secret, lms_signature, public_of_secret, secret_leaves}
 use Rattle.vo_spec.specs.Tables.{apply_batch, tables_after}
 use Rattle.vo_laws.specs.Sealing.{AreAcceptedAfter}
 use Rattle.vo_laws.proofs.ListLaws.{each_both}
@@ -56,7 +55,7 @@ accepted_more earlier (b ∷ batches) batch all ok = (
 
 pub sealable_more : (secret : Secret) (batches : List (List Command)) (batch : List Command)
     → AreSealable secret batches → FitsBatch batch
-    → IsOk (apply_batch batch (tables_after batches)) → length batches + 1 < leaves_of secret.lms
+    → IsOk (apply_batch batch (tables_after batches)) → length batches + 1 < secret_leaves secret
     → AreSealable secret (batches ++ batch ∷ [])
 sealable_more secret batches batch all fits ok left = record {
   signs = all.signs;
@@ -137,7 +136,7 @@ sealed_parts secret batches batch =
 
 module _ (held : Held) (batch : Batch) (proofs : List ℕ) (judgement : Judgement Held Entry) where
   abbrev leaves : ℕ
-  leaves = leaves_of held.key.lms
+  leaves = secret_leaves held.key
 
   abbrev IsSpent : Type 0
   IsSpent = (leaves ≤ held.roots.version + 1) × (judgement ≡ Refuses CommandCause spent_key.bytes)

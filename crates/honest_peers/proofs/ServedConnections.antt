@@ -14,7 +14,7 @@ use Rattle.link_frames.proofs.FrameLaws.{read_back}
 use Rattle.vo_store.specs.StoreState.{StoreState}
 use Rattle.vo_wire.specs.Answering.{KindAndBody, next_after, reply_to}
 use Rattle.vo_spec.specs.Conditions.{Query}
-use Rattle.vo_commands.specs.Expected.{is_public_key}
+use Rattle.vo_spec.specs.Keys.{is_public_key}
 use Rattle.vo_commands.specs.Texts.{IsQueryText}
 use Rattle.honest_peers.specs.Answering.{AreServed, bytes_put, frames_put, service}
 use Rattle.honest_peers.specs.Asking.{IsAsked, question}

@@ -7,7 +7,7 @@ use Rattle.link_frames.specs.Frames.{frame_bytes}
 use Rattle.link_frames.specs.Scripts.{Event, Puts}
 use Rattle.vo_spec.specs.Conditions.{Query}
 use Rattle.vo_store.specs.StoreState.{StoreState}
-use Rattle.vo_commands.specs.Expected.{is_public_key}
+use Rattle.vo_spec.specs.Keys.{is_public_key}
 use Rattle.vo_commands.specs.Texts.{IsQueryText}
 use Rattle.honest_peers.specs.Answering.{AreServed}
 

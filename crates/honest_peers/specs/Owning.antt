@@ -8,9 +8,8 @@ use Rattle.vo_spec.specs.declared.tables.Command.{Command}
 use Rattle.vo_spec.specs.declared.tables.CommandFault.{CommandFault}
 use Rattle.vo_spec.specs.Honest.{RepresentTables, honest_trees}
 use Rattle.vo_spec.specs.Journals.{FitsEntry, batches_of}
-use Rattle.vo_spec.specs.LmsSets.{leaves_of}
 use Rattle.vo_spec.specs.Owners.{AreLoadable}
-use Rattle.vo_spec.specs.Secret.{Secret, public_of_secret}
+use Rattle.vo_spec.specs.Secret.{Secret, public_of_secret, secret_leaves}
 use Rattle.vo_spec.specs.Tables.{apply_batch, tables_after}
 use Rattle.owner_roots.specs.Owners.{honest_roots}
 use Rattle.round_trips.specs.Trips.{AreSealable}
@@ -71,7 +70,7 @@ pub record EndsPlainly (secret : Secret) (batches : List (List Command)) (held :
     (es : List Entry) (new : List Batch) (deeds : List (Deed Held Batch Entry)) (ending : Ending)
     (later : StoreState) : Type 0 where
   pub behind : List (List Command)
-  pub comes : ComeTo (leaves_of secret.lms) batches (commands_of new) ending behind
+  pub comes : ComeTo (secret_leaves secret) batches (commands_of new) ending behind
   pub owner : IsOwnerAfter secret behind (state_after held deeds) (es ++ entries_of deeds)
   pub store : IsStoreAfter secret behind later
   pub installed : IsSome later.installed
@@ -83,7 +82,7 @@ abbrev pub OwnsPlainly : Secret → List (List Command) → List Batch → Type 
 OwnsPlainly secret batches new rose status held es s =
     ((status ≡ 3) × rose) ⊎ (status ≡ 4)
     ⊎ ((ending : Ending) × (behind : List (List Command))
-    × ComeTo (leaves_of secret.lms) batches (commands_of new) ending behind
+    × ComeTo (secret_leaves secret) batches (commands_of new) ending behind
     × (status ≡ (output_of ending).status)
     × IsOwnerAfter secret behind held es × IsStoreAfter secret behind s
     × RepresentTables s.tables (tables_after behind))

@@ -4,8 +4,7 @@ use Rattle.outside.specs.DiskModel.{DiskModel}
 use Rattle.vo_spec.specs.declared.records.Entry.{Entry}
 use Rattle.vo_spec.specs.declared.tables.Batch.{Batch}
 use Rattle.vo_spec.specs.declared.tables.Command.{Command}
-use Rattle.vo_spec.specs.LmsSets.{leaves_of}
-use Rattle.vo_spec.specs.Secret.{Secret}
+use Rattle.vo_spec.specs.Secret.{Secret, secret_leaves}
 use Rattle.link_frames.specs.Scripts.{others}
 use Rattle.owner_session.specs.Endings.{Ending, output_of}
 use Rattle.owner_session.specs.Runs.{AreJudgements}
@@ -45,6 +44,6 @@ abbrev pub EndsOnDisk : Secret → List (List Command) → List Batch → Type 0
 EndsOnDisk secret batches new rose status drive =
     ((status ≡ 3) × rose) ⊎ (status ≡ 4)
     ⊎ ((ending : Ending) × (behind : List (List Command)) × (held : Held) × (es : List Entry)
-    × (s : StoreState) × ComeTo (leaves_of secret.lms) batches (commands_of new) ending behind
+    × (s : StoreState) × ComeTo (secret_leaves secret) batches (commands_of new) ending behind
     × (status ≡ (output_of ending).status) × IsOwnerAfter secret behind held es
     × Leaves drive es × IsStoreAfter secret behind s)

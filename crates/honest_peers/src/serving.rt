@@ -11,7 +11,7 @@ ghost use Rattle.vo_spec.specs.Conditions.{Query};
 ghost use Rattle.owner_state.specs.Held.{Held};
 ghost use Rattle.vo_store.specs.StoreState.{StoreState};
 ghost use Rattle.owner_session.specs.Work.{Deed};
-ghost use Rattle.vo_commands.specs.Expected.{is_public_key};
+ghost use Rattle.vo_spec.specs.Keys.{is_public_key};
 ghost use Rattle.vo_commands.specs.Texts.{IsQueryText};
 ghost use Rattle.honest_peers.specs.Answering.{AreServed, frames_put};
 ghost use Rattle.honest_peers.specs.Asking.{IsAsked};

@@ -1,5 +1,5 @@
 //! The words of faults.
-use crate::form::{WriteForm, end_form, put_argument, start_form};
+use crate::form::{WriteForm, write_with_two};
 use row_bytes::{FormFault, ReadFault};
 use std::alloc::{AllocError, Global};
 use table_list::{ApplyFault, BatchFault};
@@ -38,10 +38,7 @@ impl WriteForm for BatchFault {
     fn write_form(&self, alloc: Global, out: &mut String) -> Result<(), AllocError> {
         match self {
             BatchFault::Command { index, fault } => {
-                start_form(out, "Command")?;
-                put_argument(alloc, out, index)?;
-                put_argument(alloc, out, fault)?;
-                end_form(out)
+                write_with_two(alloc, out, "Command", index, fault)
             }
             BatchFault::Memory => Ok(out.push_str("Memory")?),
         }

@@ -34,6 +34,32 @@ pub fn end_form(out: &mut String) -> Result<(), AllocError> {
     Ok(())
 }
 
+/// Writes a word with one argument.
+pub fn write_with_one<T: WriteForm>(
+    alloc: Global,
+    out: &mut String,
+    word: &str,
+    argument: &T,
+) -> Result<(), AllocError> {
+    start_form(out, word)?;
+    put_argument(alloc, out, argument)?;
+    end_form(out)
+}
+
+/// Writes a word with two arguments.
+pub fn write_with_two<T: WriteForm, U: WriteForm>(
+    alloc: Global,
+    out: &mut String,
+    word: &str,
+    first: &T,
+    second: &U,
+) -> Result<(), AllocError> {
+    start_form(out, word)?;
+    put_argument(alloc, out, first)?;
+    put_argument(alloc, out, second)?;
+    end_form(out)
+}
+
 /// Writes a byte string.
 pub fn write_bytes(alloc: Global, out: &mut String, bytes: &[u8]) -> Result<(), AllocError> {
     let digits = hex::encode(alloc, bytes)?;

@@ -6,6 +6,7 @@
 
 mod answers;
 mod calls;
+mod checks;
 mod conditions;
 mod faults;
 mod form;
@@ -14,6 +15,7 @@ mod no_answer;
 mod pieces;
 mod queries;
 mod tables;
+mod texts;
 mod values;
 
 pub use answers::{describe, form_of, word};
@@ -21,3 +23,4 @@ pub use calls::call_named;
 pub use form::WriteForm;
 pub use no_answer::NoAnswer;
 pub use pieces::put_piece;
+pub use texts::query_in;

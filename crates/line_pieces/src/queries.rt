@@ -1,7 +1,7 @@
 //! The written forms of queries, and of what they give.
-use crate::form::{WriteForm, end_form, put_argument, start_form};
+use crate::form::{WriteForm, end_form, put_argument, start_form, write_with_one, write_with_two};
 use std::alloc::{AllocError, Global};
-use vo_spec::{Items, Join, List, Outcome, QueryFault, QueryText, Ref, Source, Text, Value};
+use vo_spec::{Items, Join, Outcome, QueryFault, QueryText, Ref, Source};
 
 impl WriteForm for Ref {
     fn write_form(&self, alloc: Global, out: &mut String) -> Result<(), AllocError> {
@@ -56,9 +56,9 @@ impl WriteForm for QueryFault {
         start_form(out, "wrong")?;
         out.push(' ')?;
         match self {
-            QueryFault::NoTable(name) => write_fault_of(alloc, out, "NoTable", name)?,
-            QueryFault::NoColumn(name) => write_fault_of(alloc, out, "NoColumn", name)?,
-            QueryFault::Ambiguous(name) => write_fault_of(alloc, out, "Ambiguous", name)?,
+            QueryFault::NoTable(name) => write_with_one(alloc, out, "NoTable", name)?,
+            QueryFault::NoColumn(name) => write_with_one(alloc, out, "NoColumn", name)?,
+            QueryFault::Ambiguous(name) => write_with_one(alloc, out, "Ambiguous", name)?,
             QueryFault::TypeMismatch => out.push_str("TypeMismatch")?,
             QueryFault::NotKeyJoin => out.push_str("NotKeyJoin")?,
         }
@@ -66,35 +66,11 @@ impl WriteForm for QueryFault {
     }
 }
 
-/// Writes a fault and the name that it is of.
-fn write_fault_of<T: WriteForm>(
-    alloc: Global,
-    out: &mut String,
-    word: &str,
-    name: &T,
-) -> Result<(), AllocError> {
-    start_form(out, word)?;
-    put_argument(alloc, out, name)?;
-    end_form(out)
-}
-
 impl WriteForm for Outcome {
     fn write_form(&self, alloc: Global, out: &mut String) -> Result<(), AllocError> {
         match self {
-            Outcome::Rows { header, rows } => write_rows(alloc, out, header, rows),
+            Outcome::Rows { header, rows } => write_with_two(alloc, out, "rows", header, rows),
             Outcome::Wrong(fault) => fault.write_form(alloc, out),
         }
     }
-}
-
-fn write_rows(
-    alloc: Global,
-    out: &mut String,
-    header: &List<Text>,
-    rows: &List<List<Value>>,
-) -> Result<(), AllocError> {
-    start_form(out, "rows")?;
-    put_argument(alloc, out, header)?;
-    put_argument(alloc, out, rows)?;
-    end_form(out)
 }

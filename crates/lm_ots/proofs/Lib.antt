@@ -3,3 +3,4 @@ pub mod Checking
 pub mod Pieces
 pub mod Forms
 pub mod Valid
+pub mod Writing

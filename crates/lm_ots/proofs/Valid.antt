@@ -55,7 +55,7 @@ signed_form id q ots seed message =
     (eq-eqb _ _ code)
 
 -- the randomizer stands behind the typecode
-random_at : (id : List ℕ) (q : ℕ) (ots : OtsType) (seed message : List ℕ)
+pub random_at : (id : List ℕ) (q : ℕ) (ots : OtsType) (seed message : List ℕ)
     → digest_at (ots_signature id q ots seed message) 4 ≡ randomizer id q seed
 unfolding ots_signature
 random_at id q ots seed message =
@@ -65,7 +65,7 @@ random_at id q ots seed message =
     (length-sha256 (step_text id q 0xfffd 0xff seed)) (sym (length-u32_bytes (ots_code_of ots)))
 
 -- the value of chain i stands at its place
-value_at : (id : List ℕ) (q : ℕ) (ots : OtsType) (seed message : List ℕ) (i : ℕ) → i < count_of ots
+pub value_at : (id : List ℕ) (q : ℕ) (ots : OtsType) (seed message : List ℕ) (i : ℕ) → i < count_of ots
     → digest_at (ots_signature id q ots seed message) (36 + 32 * i)
     ≡ signed_value id q ots seed (digits_of id q ots (randomizer id q seed) message) i
 unfolding ots_signature

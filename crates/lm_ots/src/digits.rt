@@ -1,11 +1,14 @@
 //! The digits of a message's digest that a one-time signature signs, and their checksum.
-ghost use Rattle.std.specs.Prelude.{◌≡◌, ◌*◌, ◌^◌, ◌<◌, length};
+ghost use Rattle.std.specs.Prelude.{◌≡◌, ◌*◌, ◌^◌, ◌<◌, length, OnOk};
+ghost use Rattle.row_bytes.specs.Writing.{Writes};
 ghost use Rattle.vo_spec.specs.OtsSets.{IsWidth};
 ghost use Rattle.vo_spec.specs.Ots.{coef, checksum_of, message_text, digits_of};
 ghost use Rattle.vo_spec.specs.Sha256.{sha256};
 
+use crate::texts::write_prefix;
+use row_bytes::ByteSink;
 use tagged_hash::Hasher;
-use vo_spec::{Digest, OtsType, u16_bytes, u32_bytes};
+use vo_spec::{Digest, OtsType, u16_bytes};
 
 // What the text of a message begins with, after its leaf's name (RFC 8554, section 4.5).
 const D_MESG: u16 = 0x8181;
@@ -35,29 +38,34 @@ pub fn checksum(digest: &Digest, ots: OtsType) -> u16
     (sum << ots.shift()) as u16
 }
 
-// Q: the digest of a message, under its leaf and its randomizer.
-#[tactic(auto, unfolding(vo_spec::specs::Ots::message_text))]
+/// Writes what is hashed for a message's digest, under its leaf and its randomizer.
+pub fn write_message_text<S: ByteSink>(
+    sink: &mut S,
+    id: &[u8; 16],
+    q: u32,
+    random: &Digest,
+    message: &[u8],
+) -> Result<(), S::Fault>
+    ensures { OnOk result
+        (Writes S.HoldsBytes sink.old sink.new (message_text id.now q random.now message.now)) }
+{
+    write_prefix(sink, id, q, D_MESG)?;
+    sink.write(random.as_bytes())?;
+    sink.write(message)
+}
+
+// Q: the digest of a message.
 fn message_digest(id: &[u8; 16], q: u32, random: &Digest, message: &[u8]) -> Digest
     ensures { result ≡ sha256 (message_text id.now q random.now message.now) }
 {
     let mut hasher = Hasher::new();
-    hasher.add(id);
-    hasher.add(&u32_bytes(q));
-    hasher.add(&u16_bytes(D_MESG));
-    hasher.add(random.as_bytes());
-    hasher.add(message);
+    let Ok(()) = write_message_text(&mut hasher, id, q, random, message);
     hasher.end()
 }
 
 /// The bytes whose digits are signed for a message: its digest under the leaf and the randomizer,
 /// and the checksum.
-pub(crate) fn digits_of(
-    id: &[u8; 16],
-    q: u32,
-    ots: OtsType,
-    random: &Digest,
-    message: &[u8],
-) -> [u8; 34]
+pub fn digits_of(id: &[u8; 16], q: u32, ots: OtsType, random: &Digest, message: &[u8]) -> [u8; 34]
     ensures { result ≡ digits_of id.now q ots random.now message.now }
 {
     let digest = message_digest(id, q, random, message);

@@ -10,10 +10,12 @@ mod chains;
 mod digits;
 mod numbers;
 mod signing;
+mod texts;
 
-pub use candidates::candidate;
-pub use chains::{chain, public_of};
-pub use digits::{checksum, coef};
+pub use candidates::{candidate, chain_value, randomizer_of, write_candidate_text};
+pub use chains::{chain, public_of, secret, write_public_text, write_step_text};
+pub use digits::{checksum, coef, digits_of, write_message_text};
 pub use numbers::{digest_at, u32_at};
-pub use signing::{sign_onto, sign_ots};
+pub use signing::{randomizer, sign_onto, sign_ots, signed_value};
+pub use texts::write_prefix;
 pub use vo_spec::{Digest, OtsType};

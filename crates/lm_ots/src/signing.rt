@@ -12,8 +12,8 @@ use vo_spec::{Digest, OtsType, u32_bytes};
 // The chain number of the hash that makes the randomizer from the seed: no chain has it.
 const RANDOMIZER: u16 = 0xfffd;
 
-// What a signature releases of chain `i`, where these are the digits that are signed.
-fn signed_value(
+/// What a leaf's signature releases of chain `i`, where these are the digits that are signed.
+pub fn signed_value(
     id: &[u8; 16],
     q: u32,
     ots: OtsType,
@@ -44,6 +44,13 @@ fn put_front(mut bytes: Vec<u8>, ots: OtsType, random: &Digest) -> Result<Vec<u8
     Ok(bytes)
 }
 
+/// The randomizer of a leaf's signature (RFC 8554, section 4.5), made from the seed as a secret is.
+pub fn randomizer(id: &[u8; 16], q: u32, seed: &[u8; 32]) -> Digest
+    ensures { result ≡ randomizer id.now q seed.now }
+{
+    secret(id, q, RANDOMIZER, seed)
+}
+
 /// The bytes with the signature of the message by a leaf behind them. It takes no memory where they
 /// have room for the signature.
 pub fn sign_onto(
@@ -57,7 +64,7 @@ pub fn sign_onto(
     ensures { IfOk result (λ signed. signed.items ≡ bytes.items
         ++ ots_signature id.now q ots seed.now message.now) }
 {
-    let random = secret(id, q, RANDOMIZER, seed);
+    let random = randomizer(id, q, seed);
     let digits = digits_of(id, q, ots, &random, message);
     let mut signed = put_front(bytes, ots, &random)?;
     for i in 0..ots.count() {

@@ -3,4 +3,9 @@ pub mod Keys
 pub mod Forms
 pub mod Trees
 pub mod Ways
+pub mod TreeSignatures
+pub mod LowerLaws
+pub mod PairParts
 pub mod SignatureLaws
+pub mod ValidSignatures
+pub mod Parents

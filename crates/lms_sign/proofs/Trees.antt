@@ -1,23 +1,21 @@
 -- The nodes of a tree by their number, whatever the definition counts down.
 use Rattle.std.proofs.Common.{◌≡◌, ℕ, zero, suc, ◌+◌, ◌-◌, ◌*◌, ◌^◌, ◌≤◌, ◌<◌, List, length, get_or, [], refl, sym, ap, ◌∙◌, subst, arith}
-use Rattle.std.specs.Prelude.{nat_le, Bool, true, false, cond}
+use Rattle.std.specs.Prelude.{nat_le, false}
 use Rattle.std.proofs.lemmas.Bool.{cond-true, cond-false, le-leb}
 use Rattle.std.proofs.lemmas.Bool.Decides.{nat_tests}
 use Rattle.std.proofs.Math.Nat.{two-pow-succ, pow-zero}
-use Rattle.tagged_hash.proofs.Lengths.{length-sha256}
 use Rattle.vo_spec.specs.declared.signatures.LmsType.{LmsType}
 use Rattle.vo_spec.specs.declared.signatures.LmsType.TheVariants.{H5, H10, H15, H20, H25}
 use Rattle.std.proofs.lemmas.List.{get_or_default}
 use Rattle.lms_sign.specs.Kept.{AreNodes}
 use Rattle.vo_spec.specs.LmsSets.{height_of, leaves_of}
-use Rattle.vo_spec.specs.Ots.{ots_public}
-use Rattle.vo_spec.specs.Lms.{inner_node, inner_text, leaf_text}
-use Rattle.vo_spec.specs.Secret.{Secret, bottom_node, node_within, tree_node}
+use Rattle.vo_spec.specs.Lms.{inner_node}
+use Rattle.vo_spec.specs.SecretTrees.{SecretTree, bottom_node, node_within, tree_node}
 
-at_bottom : (key : Secret) (n r : ℕ) → 2 ^ height_of key.lms ≤ r → node_within key n r ≡ bottom_node key r
+at_bottom : (tree : SecretTree) (n r : ℕ) → 2 ^ height_of tree.lms ≤ r → node_within tree n r ≡ bottom_node tree r
 unfolding node_within
-at_bottom key zero r bottom = refl
-at_bottom key (suc n) r bottom = cond-true (nat_le (2 ^ height_of key.lms) r) _ _ (le-leb _ _ bottom)
+at_bottom tree zero r bottom = refl
+at_bottom tree (suc n) r bottom = cond-true (nat_le (2 ^ height_of tree.lms) r) _ _ (le-leb _ _ bottom)
 
 deeper : (b r p : ℕ) → b ≤ r * (p + p) → b ≤ 2 * r * p
 deeper b r p h = omega arith
@@ -26,23 +24,23 @@ deeper_odd : (b r p : ℕ) → b ≤ r * (p + p) → b ≤ (2 * r + 1) * p
 deeper_odd b r p h = omega arith
 
 -- to count down from more changes nothing
-within_same : (key : Secret) (n m r : ℕ) → 2 ^ height_of key.lms ≤ r * 2 ^ n → 2 ^ height_of key.lms ≤ r * 2 ^ m
-    → node_within key n r ≡ node_within key m r
+within_same : (tree : SecretTree) (n m r : ℕ) → 2 ^ height_of tree.lms ≤ r * 2 ^ n → 2 ^ height_of tree.lms ≤ r * 2 ^ m
+    → node_within tree n r ≡ node_within tree m r
 unfolding node_within
-within_same key zero m r deep deep' = sym (at_bottom key m r (omega (arith, pow-zero 2)))
-within_same key (suc n) zero r deep deep' = at_bottom key (suc n) r (omega (arith, pow-zero 2))
-within_same key (suc n) (suc m) r deep deep' =
-    let bound = 2 ^ height_of key.lms in
+within_same tree zero m r deep deep' = sym (at_bottom tree m r (omega (arith, pow-zero 2)))
+within_same tree (suc n) zero r deep deep' = at_bottom tree (suc n) r (omega (arith, pow-zero 2))
+within_same tree (suc n) (suc m) r deep deep' =
+    let bound = 2 ^ height_of tree.lms in
     let deep_n : bound ≤ r * (2 ^ n + 2 ^ n) = rw (← two-pow-succ n) deep in
     let deep_m : bound ≤ r * (2 ^ m + 2 ^ m) = rw (← two-pow-succ m) deep' in
-    let left = within_same key n m (2 * r) (deeper bound r (2 ^ n) deep_n) (deeper bound r (2 ^ m) deep_m) in
-    let right = within_same key n m (2 * r + 1) (deeper_odd bound r (2 ^ n) deep_n) (deeper_odd bound r (2 ^ m) deep_m) in
+    let left = within_same tree n m (2 * r) (deeper bound r (2 ^ n) deep_n) (deeper bound r (2 ^ m) deep_m) in
+    let right = within_same tree n m (2 * r + 1) (deeper_odd bound r (2 ^ n) deep_n) (deeper_odd bound r (2 ^ m) deep_m) in
     rw (left, right) refl
 
 -- a node at or above 2 ^ h is a leaf
-pub tree_bottom : (key : Secret) (r : ℕ) → 2 ^ height_of key.lms ≤ r → tree_node key r ≡ bottom_node key r
+pub tree_bottom : (tree : SecretTree) (r : ℕ) → 2 ^ height_of tree.lms ≤ r → tree_node tree r ≡ bottom_node tree r
 unfolding tree_node
-tree_bottom key r bottom = at_bottom key (height_of key.lms) r bottom
+tree_bottom tree r bottom = at_bottom tree (height_of tree.lms) r bottom
 
 twice : (b r p : ℕ) → 0 < r → b ≤ p + p → b ≤ 2 * r * p
 twice b zero p low h = absurd (omega arith)
@@ -64,43 +62,27 @@ high H20 = refl
 high H25 = refl
 
 -- any other is made of its children
-pub tree_inner : (key : Secret) (r : ℕ) → 0 < r → r < 2 ^ height_of key.lms
-    → tree_node key r ≡ inner_node key.id r (tree_node key (2 * r)) (tree_node key (2 * r + 1))
+pub tree_inner : (tree : SecretTree) (r : ℕ) → 0 < r → r < 2 ^ height_of tree.lms
+    → tree_node tree r ≡ inner_node tree.id r (tree_node tree (2 * r)) (tree_node tree (2 * r + 1))
 unfolding tree_node node_within
-tree_inner key r low below =
-    let h = height_of key.lms in
+tree_inner tree r low below =
+    let h = height_of tree.lms in
     let k = h - 1 in
-    let whole : suc k ≡ h = high key.lms in
+    let whole : suc k ≡ h = high tree.lms in
     let half = 2 ^ k in
     let bound : 2 ^ h ≡ half + half = ap (λ n. 2 ^ n) (sym whole) ∙ two-pow-succ k in
-    let left = within_same key k h (2 * r) (twice (2 ^ h) r half low (omega arith)) (twice (2 ^ h) r (2 ^ h) low (omega arith)) in
-    let right = within_same key k h (2 * r + 1) (twice_and_one (2 ^ h) r half low (omega arith)) (twice_and_one (2 ^ h) r (2 ^ h) low (omega arith)) in
-    let here : node_within key (suc k) r ≡ inner_node key.id r (node_within key k (2 * r)) (node_within key k (2 * r + 1)) =
+    let left = within_same tree k h (2 * r) (twice (2 ^ h) r half low (omega arith)) (twice (2 ^ h) r (2 ^ h) low (omega arith)) in
+    let right = within_same tree k h (2 * r + 1) (twice_and_one (2 ^ h) r half low (omega arith)) (twice_and_one (2 ^ h) r (2 ^ h) low (omega arith)) in
+    let here : node_within tree (suc k) r ≡ inner_node tree.id r (node_within tree k (2 * r)) (node_within tree k (2 * r + 1)) =
     cond-false (nat_le (2 ^ h) r) _ _ (lt-leb r (2 ^ h) below) in
-    let Is : ℕ → Type 0 = λ n. node_within key n r ≡ inner_node key.id r (node_within key k (2 * r)) (node_within key k (2 * r + 1)) in
+    let Is : ℕ → Type 0 = λ n. node_within tree n r ≡ inner_node tree.id r (node_within tree k (2 * r)) (node_within tree k (2 * r + 1)) in
     let there = subst Is whole here in
     rw (there, left, right) refl
 
-length-cond : (b : Bool) (x y : List ℕ) → length x ≡ 32 → length y ≡ 32 → length (cond b x y) ≡ 32
-length-cond true x y hx hy = hx
-length-cond false x y hx hy = hy
-
-length-within : (key : Secret) (n r : ℕ) → length (node_within key n r) ≡ 32
-unfolding node_within
-length-within key zero r = length-sha256 (leaf_text key.id r (ots_public key.id (r - 2 ^ height_of key.lms) key.ots key.seed))
-length-within key (suc n) r =
-    length-cond (nat_le (2 ^ height_of key.lms) r) _ _
-    (length-sha256 (leaf_text key.id r (ots_public key.id (r - 2 ^ height_of key.lms) key.ots key.seed)))
-    (length-sha256 (inner_text key.id r (node_within key n (2 * r)) (node_within key n (2 * r + 1))))
-
-pub length-tree_node : (key : Secret) (r : ℕ) → length (tree_node key r) ≡ 32
-unfolding tree_node
-length-tree_node key r = length-within key (height_of key.lms) r
-
 -- what stands at a place among the nodes that are kept
-pub node_kept : (key : Secret) (nodes : List (List ℕ)) (j r : ℕ) (found : List ℕ) → AreNodes key nodes
-    → found ≡ get_or nodes j found → j < length nodes → j + r + 1 ≡ 2 * leaves_of key.lms
-    → found ≡ tree_node key r
-node_kept key nodes j r found are there within place =
-    let number : 2 * leaves_of key.lms - 1 - j ≡ r = omega arith in
+pub node_kept : (tree : SecretTree) (nodes : List (List ℕ)) (j r : ℕ) (found : List ℕ) → AreNodes tree nodes
+    → found ≡ get_or nodes j found → j < length nodes → j + r + 1 ≡ 2 * leaves_of tree.lms
+    → found ≡ tree_node tree r
+node_kept tree nodes j r found are there within place =
+    let number : 2 * leaves_of tree.lms - 1 - j ≡ r = omega arith in
     there ∙ get_or_default nodes j found [] within ∙ rw number at (are.each j within)

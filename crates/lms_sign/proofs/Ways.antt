@@ -4,7 +4,7 @@ use Rattle.std.proofs.lemmas.Nat.{pow_pos, shr-shr, le-div}
 use Rattle.std.proofs.Math.Nat.{two-pow-succ, pow-le-pow_right, div-one, div-le_self, div-eq_of_lt-le}
 use Rattle.vo_spec.specs.LmsSets.{height_of, leaves_of}
 use Rattle.vo_spec.specs.Lms.{parent, climb}
-use Rattle.vo_spec.specs.Secret.{Secret, tree_node, sibling_of, path_node}
+use Rattle.vo_spec.specs.SecretTrees.{SecretTree, tree_node, sibling_of, path_node}
 use Rattle.lms_sign.proofs.Trees.{tree_inner}
 
 -- along equal paths
@@ -17,25 +17,25 @@ climb_same id r f g node (suc n) same =
     let last : f n ≡ g n = same n (omega arith) in
     rw (below, last) refl
 
-up_one : (r n : ℕ) → r / 2 ^ n / 2 ≡ r / 2 ^ suc n
+pub up_one : (r n : ℕ) → r / 2 ^ n / 2 ≡ r / 2 ^ suc n
 up_one r n = shr-shr r n 1 ∙ ap (λ m. r / 2 ^ m) (add-one n)
 
 -- from a node and its sibling to the node above
-parent_even : (key : Secret) (r : ℕ) → r % 2 ≡ 0 → 2 ≤ r → r < 2 * leaves_of key.lms
-    → parent key.id r (tree_node key r) (tree_node key (sibling_of r)) ≡ tree_node key (r / 2)
+parent_even : (tree : SecretTree) (r : ℕ) → r % 2 ≡ 0 → 2 ≤ r → r < 2 * leaves_of tree.lms
+    → parent tree.id r (tree_node tree r) (tree_node tree (sibling_of r)) ≡ tree_node tree (r / 2)
 unfolding parent
-parent_even key r even low below =
+parent_even tree r even low below =
     let whole : 2 * (r / 2) ≡ r = omega arith in
-    let above = tree_inner key (r / 2) (omega arith) (omega arith) in
+    let above = tree_inner tree (r / 2) (omega arith) (omega arith) in
     rw even (sym (rw whole at above))
 
-parent_odd : (key : Secret) (r : ℕ) → r % 2 ≡ 1 → 2 ≤ r → r < 2 * leaves_of key.lms
-    → parent key.id r (tree_node key r) (tree_node key (sibling_of r)) ≡ tree_node key (r / 2)
+parent_odd : (tree : SecretTree) (r : ℕ) → r % 2 ≡ 1 → 2 ≤ r → r < 2 * leaves_of tree.lms
+    → parent tree.id r (tree_node tree r) (tree_node tree (sibling_of r)) ≡ tree_node tree (r / 2)
 unfolding parent
-parent_odd key r odd low below =
+parent_odd tree r odd low below =
     let left : 2 * (r / 2) ≡ r - 1 = omega arith in
     let right : r - 1 + 1 ≡ r = omega arith in
-    let above = tree_inner key (r / 2) (omega arith) (omega arith) in
+    let above = tree_inner tree (r / 2) (omega arith) (omega arith) in
     rw odd (sym (rw (left, right) at above))
 
 two_cases : (m : ℕ) → m < 2 → (m ≡ 0) ⊎ (m ≡ 1)
@@ -43,10 +43,10 @@ two_cases zero h = inl refl
 two_cases (suc zero) h = inr refl
 two_cases (suc (suc m)) h = absurd (omega arith)
 
-parent_tree : (key : Secret) (r : ℕ) → 2 ≤ r → r < 2 * leaves_of key.lms
-    → parent key.id r (tree_node key r) (tree_node key (sibling_of r)) ≡ tree_node key (r / 2)
-parent_tree key r low below =
-    elim (two_cases (r % 2) (omega arith)) [ inl even ↦ parent_even key r even low below | inr odd ↦ parent_odd key r odd low below ]
+pub parent_tree : (tree : SecretTree) (r : ℕ) → 2 ≤ r → r < 2 * leaves_of tree.lms
+    → parent tree.id r (tree_node tree r) (tree_node tree (sibling_of r)) ≡ tree_node tree (r / 2)
+parent_tree tree r low below =
+    elim (two_cases (r % 2) (omega arith)) [ inl even ↦ parent_even tree r even low below | inr odd ↦ parent_odd tree r odd low below ]
 
 -- a sibling of a node below the root is one too
 pub sibling_range : (r bound : ℕ) → 2 ≤ r → r < 2 * bound → (0 < sibling_of r) × (sibling_of r < 2 * bound)
@@ -64,24 +64,24 @@ low_enough h n q below =
     le-div 2 (2 ^ h + q) (2 ^ n) (pow_pos n) (omega arith)
 
 -- from a leaf n levels up
-pub climb_tree : (key : Secret) (q n : ℕ) → q < leaves_of key.lms → n ≤ height_of key.lms
-    → climb key.id (leaves_of key.lms + q) (path_node key q) (tree_node key (leaves_of key.lms + q)) n
-    ≡ tree_node key ((leaves_of key.lms + q) / 2 ^ n)
+pub climb_tree : (tree : SecretTree) (q n : ℕ) → q < leaves_of tree.lms → n ≤ height_of tree.lms
+    → climb tree.id (leaves_of tree.lms + q) (path_node tree q) (tree_node tree (leaves_of tree.lms + q)) n
+    ≡ tree_node tree ((leaves_of tree.lms + q) / 2 ^ n)
 unfolding climb
-climb_tree key q zero leaf few = ap (tree_node key) (sym (div-one (leaves_of key.lms + q)))
-climb_tree key q (suc n) leaf few =
-    let r = (leaves_of key.lms + q) / 2 ^ n in
-    let below = climb_tree key q n leaf (omega arith) in
-    let small : r ≤ leaves_of key.lms + q = div-le_self (leaves_of key.lms + q) (2 ^ n) in
+climb_tree tree q zero leaf few = ap (tree_node tree) (sym (div-one (leaves_of tree.lms + q)))
+climb_tree tree q (suc n) leaf few =
+    let r = (leaves_of tree.lms + q) / 2 ^ n in
+    let below = climb_tree tree q n leaf (omega arith) in
+    let small : r ≤ leaves_of tree.lms + q = div-le_self (leaves_of tree.lms + q) (2 ^ n) in
     rw below
-    (parent_tree key r (low_enough (height_of key.lms) n q (omega arith)) (omega arith)
-    ∙ ap (tree_node key) (up_one (leaves_of key.lms + q) n))
+    (parent_tree tree r (low_enough (height_of tree.lms) n q (omega arith)) (omega arith)
+    ∙ ap (tree_node tree) (up_one (leaves_of tree.lms + q) n))
 
 -- the way ends at the root
-pub climb_root : (key : Secret) (q : ℕ) → q < leaves_of key.lms
-    → climb key.id (leaves_of key.lms + q) (path_node key q) (tree_node key (leaves_of key.lms + q)) (height_of key.lms)
-    ≡ tree_node key 1
-climb_root key q leaf =
-    let top : (leaves_of key.lms + q) / leaves_of key.lms ≡ 1 =
-    div-eq_of_lt-le {k = 1} (leaves_of key.lms) {m = leaves_of key.lms + q} (omega arith) (omega arith) in
-    climb_tree key q (height_of key.lms) leaf (omega arith) ∙ ap (tree_node key) top
+pub climb_root : (tree : SecretTree) (q : ℕ) → q < leaves_of tree.lms
+    → climb tree.id (leaves_of tree.lms + q) (path_node tree q) (tree_node tree (leaves_of tree.lms + q)) (height_of tree.lms)
+    ≡ tree_node tree 1
+climb_root tree q leaf =
+    let top : (leaves_of tree.lms + q) / leaves_of tree.lms ≡ 1 =
+    div-eq_of_lt-le {k = 1} (leaves_of tree.lms) {m = leaves_of tree.lms + q} (omega arith) (omega arith) in
+    climb_tree tree q (height_of tree.lms) leaf (omega arith) ∙ ap (tree_node tree) top

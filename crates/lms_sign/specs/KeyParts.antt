@@ -10,7 +10,7 @@ use Rattle.vo_spec.specs.declared.signatures.LmsType.TheVariants.{H5, H10, H15, 
 use Rattle.vo_spec.specs.Bytes.{u32_bytes, id_at}
 use Rattle.vo_spec.specs.OtsSets.{ots_of, ots_code_of}
 use Rattle.vo_spec.specs.LmsSets.{lms_of, lms_code_of}
-use Rattle.vo_spec.specs.Lms.{key_lms, key_ots, key_id, key_root, public_bytes}
+use Rattle.vo_spec.specs.Lms.{tree_lms, tree_ots, tree_id, tree_root, tree_key_bytes}
 use Rattle.lm_ots.proofs.Pieces.{length-u32_bytes, u32_at-front, u32_at-append, digest_at-middle}
 
 -- an identifier has 16 bytes and a root 32
@@ -20,11 +20,11 @@ pub record HasLengths (id root : List ℕ) : Type 0 where
 
 -- the set that a key's first typecode names
 abbrev pub lms_in : List ℕ → LmsType
-lms_in key = unwrap_or (key_lms key) H5
+lms_in key = unwrap_or (tree_lms key) H5
 
 -- the set that a key's second typecode names
 abbrev pub ots_in : List ℕ → OtsType
-ots_in key = unwrap_or (key_ots key) W8
+ots_in key = unwrap_or (tree_ots key) W8
 
 pub lms_code_fits : (lms : LmsType) → lms_code_of lms < 2 ^ 32
 lms_code_fits H5 = lit< tt
@@ -33,7 +33,7 @@ lms_code_fits H15 = lit< tt
 lms_code_fits H20 = lit< tt
 lms_code_fits H25 = lit< tt
 
-ots_code_fits : (ots : OtsType) → ots_code_of ots < 2 ^ 32
+pub ots_code_fits : (ots : OtsType) → ots_code_of ots < 2 ^ 32
 ots_code_fits W1 = lit< tt
 ots_code_fits W2 = lit< tt
 ots_code_fits W4 = lit< tt
@@ -52,10 +52,10 @@ ots_of-ots_code_of W2 = refl
 ots_of-ots_code_of W4 = refl
 ots_of-ots_code_of W8 = refl
 
-pub key_lms-public_bytes : (lms : LmsType) (ots : OtsType) (id root : List ℕ)
-    → key_lms (public_bytes lms ots id root) ≡ Some lms
-unfolding public_bytes
-key_lms-public_bytes lms ots id root =
+pub tree_lms-bytes : (lms : LmsType) (ots : OtsType) (id root : List ℕ)
+    → tree_lms (tree_key_bytes lms ots id root) ≡ Some lms
+unfolding tree_key_bytes
+tree_lms-bytes lms ots id root =
     let first = u32_bytes (lms_code_of lms) in
     let second = u32_bytes (ots_code_of ots) in
     rw (
@@ -66,10 +66,10 @@ key_lms-public_bytes lms ots id root =
     )
     (lms_of-lms_code_of lms)
 
-pub key_ots-public_bytes : (lms : LmsType) (ots : OtsType) (id root : List ℕ)
-    → key_ots (public_bytes lms ots id root) ≡ Some ots
-unfolding public_bytes
-key_ots-public_bytes lms ots id root =
+pub tree_ots-bytes : (lms : LmsType) (ots : OtsType) (id root : List ℕ)
+    → tree_ots (tree_key_bytes lms ots id root) ≡ Some ots
+unfolding tree_key_bytes
+tree_ots-bytes lms ots id root =
     let first = u32_bytes (lms_code_of lms) in
     let second = u32_bytes (ots_code_of ots) in
     rw (
@@ -93,40 +93,40 @@ id_at-middle front id back at full place =
     rw (place, append_assoc front id back, drop-append_seam front (id ++ back), ← full)
     (take-append_seam id back)
 
-pub key_id-public_bytes : (lms : LmsType) (ots : OtsType) (id root : List ℕ) → length id ≡ 16
-    → key_id (public_bytes lms ots id root) ≡ id
-unfolding key_id public_bytes
-key_id-public_bytes lms ots id root full =
+pub tree_id-bytes : (lms : LmsType) (ots : OtsType) (id root : List ℕ) → length id ≡ 16
+    → tree_id (tree_key_bytes lms ots id root) ≡ id
+unfolding tree_id tree_key_bytes
+tree_id-bytes lms ots id root full =
     id_at-middle (u32_bytes (lms_code_of lms) ++ u32_bytes (ots_code_of ots)) id root 8 full
     (sym (length-codes lms ots))
 
-pub key_root-public_bytes : (lms : LmsType) (ots : OtsType) (id root : List ℕ) → HasLengths id root
-    → key_root (public_bytes lms ots id root) ≡ root
-unfolding key_root public_bytes
-key_root-public_bytes lms ots id root lengths =
+pub tree_root-bytes : (lms : LmsType) (ots : OtsType) (id root : List ℕ) → HasLengths id root
+    → tree_root (tree_key_bytes lms ots id root) ≡ root
+unfolding tree_root tree_key_bytes
+tree_root-bytes lms ots id root lengths =
     let front = u32_bytes (lms_code_of lms) ++ u32_bytes (ots_code_of ots) ++ id in
     let place : 24 ≡ length front = rw (length-append, length-codes lms ots, lengths.id_len) refl in
     let found = digest_at-middle front root [] 24 lengths.root_len place in
     rw append-nil at found
 
-pub length-public_bytes : (lms : LmsType) (ots : OtsType) (id root : List ℕ) → HasLengths id root
-    → length (public_bytes lms ots id root) ≡ 56
-unfolding public_bytes
-length-public_bytes lms ots id root lengths =
+pub length-bytes : (lms : LmsType) (ots : OtsType) (id root : List ℕ) → HasLengths id root
+    → length (tree_key_bytes lms ots id root) ≡ 56
+unfolding tree_key_bytes
+length-bytes lms ots id root lengths =
     rw (length-append, length-append, length-codes lms ots, lengths.id_len, lengths.root_len) refl
 
 -- what is read back of a key's bytes
 pub record ReadBack (lms : LmsType) (ots : OtsType) (id root : List ℕ) : Type 0 where
-  pub lms_is : lms_in (public_bytes lms ots id root) ≡ lms
-  pub ots_is : ots_in (public_bytes lms ots id root) ≡ ots
-  pub id_is : key_id (public_bytes lms ots id root) ≡ id
-  pub root_is : key_root (public_bytes lms ots id root) ≡ root
+  pub lms_is : lms_in (tree_key_bytes lms ots id root) ≡ lms
+  pub ots_is : ots_in (tree_key_bytes lms ots id root) ≡ ots
+  pub id_is : tree_id (tree_key_bytes lms ots id root) ≡ id
+  pub root_is : tree_root (tree_key_bytes lms ots id root) ≡ root
 
 pub parts_read_back : (lms : LmsType) (ots : OtsType) (id root : List ℕ) → HasLengths id root
     → ReadBack lms ots id root
 parts_read_back lms ots id root lengths = record {
-  lms_is = rw (key_lms-public_bytes lms ots id root) refl;
-  ots_is = rw (key_ots-public_bytes lms ots id root) refl;
-  id_is = key_id-public_bytes lms ots id root lengths.id_len;
-  root_is = key_root-public_bytes lms ots id root lengths;
+  lms_is = rw (tree_lms-bytes lms ots id root) refl;
+  ots_is = rw (tree_ots-bytes lms ots id root) refl;
+  id_is = tree_id-bytes lms ots id root lengths.id_len;
+  root_is = tree_root-bytes lms ots id root lengths;
 }

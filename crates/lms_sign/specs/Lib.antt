@@ -1,2 +1,4 @@
 pub mod KeyParts
 pub mod Kept
+pub mod Lower
+pub mod Paths

@@ -1,141 +1,172 @@
-//! Public keys, as their bytes.
-ghost use Rattle.std.specs.Prelude.{◌≡◌, ◌≢◌, ◌+◌, ◌≤◌, ◌↔◌, length, IfOk};
-ghost use Rattle.vo_spec.specs.Bytes.{id_at};
-ghost use Rattle.vo_spec.specs.Lms.{key_id, leaf_of, leaf_count, key_signature_len, IsUnknownSet};
+//! Public keys of one level and of two, as their bytes.
+ghost use Rattle.std.specs.Prelude.{◌≡◌, ◌≢◌, ◌+◌, ◌≤◌, ◌↔◌, [], length, is_some, IfOk, IfSome};
+ghost use Rattle.vo_spec.specs.declared.signatures.Levels.TheVariants.{One, Two};
+ghost use Rattle.vo_spec.specs.Keys.{key_id, leaf_by, leaf_of, leaf_count, key_signature_len, is_public_key, IsUnknownSet};
 
-use crate::verifying::signature_len;
-use lm_ots::{digest_at, u32_at};
+use crate::lms_key::LmsKey;
+use lm_ots::u32_at;
 use std::alloc::{AllocError, Global};
 use std::marker::Model;
 use thiserror::Error;
-use vo_spec::{Digest, LmsType, OtsType, u32_bytes};
+use vo_spec::{Levels, u32_bytes};
 
 /// Why bytes are no public key.
 #[derive(Clone, Copy, Debug, PartialEq, Eq, Error)]
 pub enum KeyFault {
-    /// They are not 56 bytes.
+    /// They are neither 56 nor 60 bytes.
     #[error("a key of another length")]
     Length,
-    /// A typecode names no parameter set.
+    /// A typecode names no parameter set, or the number of levels isn't 2.
     #[error("a key of an unknown set")]
     UnknownSet,
 }
 
-/// A public key; contracts see its 56 bytes (RFC 8554, section 5.3).
+/// A public key; contracts see its bytes: 56 of one level (RFC 8554, section 5.3), 60 of two
+/// (section 6.1).
 #[derive(Clone, Copy, Debug)]
 pub struct PublicKey {
-    pub(crate) lms: LmsType,
-    pub(crate) ots: OtsType,
-    pub(crate) id: [u8; 16],
-    pub(crate) root: Digest,
+    pub(crate) levels: Levels,
+    pub(crate) tree: LmsKey,
 }
 
 impl Model for PublicKey {
-    ghost use Rattle.std.specs.Prelude.{List, ℕ};
-    ghost use Rattle.vo_spec.specs.Lms.{public_bytes, key_id, key_root};
-    ghost use Rattle.lms_sign.specs.KeyParts.{HasLengths, lms_in, ots_in, parts_read_back};
+    ghost use Rattle.std.specs.Prelude.{◌≡◌, List, ℕ, length};
+    ghost use Rattle.vo_spec.specs.Keys.{key_bytes, levels_of, key_tree};
+    ghost use Rattle.vo_laws.proofs.KeyLaws.{levels_read_back, key_tree-key_bytes};
 
     ghost Value = { List ℕ };
 
-    ghost view = { λ key. public_bytes key.lms key.ots key.id key.root };
+    ghost view = { λ key. key_bytes key.levels key.tree };
 
-    ghost invariant = { λ key. HasLengths key.id key.root };
+    ghost invariant = { λ key. length key.tree ≡ 56 };
 
-    ghost inverse = { λ bytes. record {
-      lms = lms_in bytes;
-      ots = ots_in bytes;
-      id =
-          key_id bytes;
-      root = key_root bytes;
+    ghost inverse = { λ bytes. record { levels = levels_of bytes; tree = key_tree bytes } };
+
+    ghost inverse_ok = { λ key whole. λ i. record {
+      levels = levels_read_back key.levels key.tree whole i;
+      tree = key_tree-key_bytes key.levels key.tree whole i;
     } };
-
-    ghost inverse_ok = { λ key lengths. let read =
-        parts_read_back key.lms key.ots key.id key.root lengths in
-        λ i. record {
-          lms = read.lms_is i;
-          ots = read.ots_is i;
-          id = read.id_is i;
-          root =
-              read.root_is i;
-        } };
 }
 
-// The identifier that the 16 bytes from `at` on are.
-#[tactic(auto, unfolding(vo_spec::specs::Bytes::id_at))]
-fn id_at(bytes: &[u8], at: usize) -> [u8; 16]
-    requires { at + 16 ≤ length bytes.now }
-    ensures { result ≡ id_at bytes.now at }
+// The number that a key of two levels begins with.
+const TWO_LEVELS: u32 = 2;
+
+// The key of one level that 56 bytes are, if they are one.
+fn read_one(bytes: &[u8]) -> Option<PublicKey>
+    requires { length bytes.now ≡ 56 }
+    ensures key { IfSome result (λ key. key ≡ bytes.now) }
+    ensures named { is_some result ≡ is_public_key bytes.now }
 {
-    let mut id = [0; 16];
-    id.copy_from_slice(&bytes[at..at + 16]);
-    id
+    let tree = LmsKey::read(bytes)?;
+    Some(PublicKey {
+        levels: Levels::One,
+        tree,
+    })
+}
+
+// The key of two levels that 60 bytes are, if they are one.
+fn read_two(bytes: &[u8]) -> Option<PublicKey>
+    requires { length bytes.now ≡ 60 }
+    ensures key { IfSome result (λ key. key ≡ bytes.now) }
+    ensures named { is_some result ≡ is_public_key bytes.now }
+{
+    if u32_at(bytes, 0) != TWO_LEVELS {
+        return None;
+    }
+    let tree = LmsKey::read(&bytes[4..])?;
+    Some(PublicKey {
+        levels: Levels::Two,
+        tree,
+    })
+}
+
+// The leaf that the signature of one tree says it is by.
+fn one_leaf(signature: &[u8]) -> Option<u64>
+    ensures { result ≡ leaf_by One [] signature.now }
+{
+    if signature.len() < 4 {
+        return None;
+    }
+    Some(u64::from(u32_at(signature, 0)))
+}
+
+// The leaf that a signature of two levels says it is by, under the upper tree's key.
+fn pair_leaf(upper: &LmsKey, signature: &[u8]) -> Option<u64>
+    ensures { result ≡ leaf_by Two upper.now signature.now }
+{
+    let at = 60 + upper.signature_len();
+    if signature.len() < at + 4 {
+        return None;
+    }
+    let first = u64::from(u32_at(signature, 4)) * upper.leaves();
+    Some(first + u64::from(u32_at(signature, at)))
 }
 
 impl PublicKey {
     /// The key that the bytes are.
+    #[tactic(auto, unfolding(vo_spec::specs::Keys::IsUnknownSet))]
     pub fn read(bytes: &[u8]) -> Result<PublicKey, KeyFault>
         ensures ok { IfOk result (λ key. key ≡ bytes.now) }
-        ensures length { (result ≡ Err KeyFault.Length) ↔ (length bytes.now ≢ 56) }
+        ensures length { (result ≡ Err KeyFault.Length)
+            ↔ (length bytes.now ≢ 56) × (length bytes.now ≢ 60) }
         ensures unknown { (result ≡ Err KeyFault.UnknownSet) ↔ IsUnknownSet bytes.now }
     {
-        if bytes.len() != 56 {
-            return Err(KeyFault::Length);
-        }
-        let Some(lms) = LmsType::of(u32_at(bytes, 0)) else {
-            return Err(KeyFault::UnknownSet);
+        let found = match bytes.len() {
+            56 => read_one(bytes),
+            60 => read_two(bytes),
+            _ => return Err(KeyFault::Length),
         };
-        let Some(ots) = OtsType::of(u32_at(bytes, 4)) else {
-            return Err(KeyFault::UnknownSet);
-        };
-        Ok(PublicKey {
-            lms,
-            ots,
-            id: id_at(bytes, 8),
-            root: digest_at(bytes, 24),
-        })
+        found.ok_or(KeyFault::UnknownSet)
     }
-    /// The key's 56 bytes.
+
+    /// The key's bytes.
     pub fn bytes(&self, alloc: Global) -> Result<Vec<u8>, AllocError>
         ensures { IfOk result (λ bytes. bytes.items ≡ self.now) }
     {
-        let mut bytes = Vec::with_capacity(alloc, 56)?;
-        bytes.extend_from_slice(&u32_bytes(self.lms.code()))?;
-        bytes.extend_from_slice(&u32_bytes(self.ots.code()))?;
-        bytes.extend_from_slice(&self.id)?;
-        bytes.extend_from_slice(self.root.as_bytes())?;
-        Ok(bytes)
+        let mut bytes = Vec::with_capacity(alloc, 60)?;
+        if self.levels == Levels::Two {
+            bytes.extend_from_slice(&u32_bytes(TWO_LEVELS))?;
+        }
+        self.tree.put_onto(bytes)
     }
 
-    /// The identifier I of the key's tree.
+    /// The identifier I of the key's tree, of the upper one where there are two levels.
     pub fn id(&self) -> &[u8; 16]
         ensures { result.now ≡ key_id self.now }
     {
-        &self.id
+        self.tree.id()
     }
 
-    /// How many leaves the key has.
+    /// How many messages the key's leaves sign.
     pub fn leaf_count(&self) -> u64
         ensures { result ≡ leaf_count self.now }
     {
-        1 << self.lms.height()
+        let leaves = self.tree.leaves();
+        match self.levels {
+            Levels::One => leaves,
+            Levels::Two => leaves * leaves,
+        }
     }
 
     /// The length of the key's signatures, in bytes.
     pub fn signature_len(&self) -> usize
         ensures { result ≡ key_signature_len self.now }
     {
-        signature_len(self.lms, self.ots)
+        let len = self.tree.signature_len();
+        match self.levels {
+            Levels::One => len,
+            Levels::Two => 60 + 2 * len,
+        }
     }
 
-    /// The leaf that a signature says it is by; None where it has fewer than 4 bytes. Nothing is
-    /// said of whether the signature is valid.
-    #[tactic(auto, unfolding(vo_spec::specs::Lms::leaf_of))]
+    /// The leaf that a signature says it is by, those of the lower trees numbered through; None
+    /// where it is too short to say so. Nothing is said of whether the signature is valid.
     pub fn leaf_of(&self, signature: &[u8]) -> Option<u64>
         ensures { result ≡ leaf_of self.now signature.now }
     {
-        if signature.len() < 4 {
-            return None;
+        match self.levels {
+            Levels::One => one_leaf(signature),
+            Levels::Two => pair_leaf(&self.tree, signature),
         }
-        Some(u64::from(u32_at(signature, 0)))
     }
 }

@@ -1,17 +1,16 @@
 //! Signing a message by a leaf of a key.
-ghost use Rattle.std.specs.Prelude.{◌≡◌, ◌+◌, ◌<◌, ◌≤◌, ◌++◌, ◌↔◌, length, take, IfOk, IsTrue, Some};
-ghost use Rattle.vo_spec.specs.Bytes.{u32_bytes, join_pieces};
-ghost use Rattle.vo_spec.specs.LmsSets.{height_of, leaves_of};
-ghost use Rattle.vo_spec.specs.Lms.{lms_valid, leaf_of, key_signature_len};
-ghost use Rattle.vo_spec.specs.Secret.{path_node, sibling_of, lms_signature, public_of_secret};
+ghost use Rattle.std.specs.Prelude.{◌≡◌, ◌/◌, ◌<◌, ◌≤◌, ◌↔◌, length, IfOk, IsTrue, Some};
+ghost use Rattle.vo_spec.specs.declared.signatures.Levels.TheVariants.{Two};
+ghost use Rattle.vo_spec.specs.LmsSets.{leaves_of};
+ghost use Rattle.vo_spec.specs.Keys.{lms_valid, leaf_of, key_signature_len};
+ghost use Rattle.vo_spec.specs.Secret.{signature_by, lms_signature, public_of_secret, secret_leaves};
 ghost use Rattle.lms_sign.specs.declared.signing.SignFault.TheVariants.{Memory};
 
+use crate::lower_tree::LowerTree;
 use crate::secret_key::SecretKey;
-use crate::verifying::signature_len;
-use lm_ots::sign_onto;
 use std::alloc::{AllocError, Global};
 use thiserror::Error;
-use vo_spec::u32_bytes;
+use vo_spec::Levels;
 
 /// Why a message is not signed.
 #[derive(Clone, Copy, Debug, PartialEq, Eq, Error)]
@@ -31,45 +30,68 @@ impl From<AllocError> for SignFault {
     }
 }
 
-// The number of a node's sibling.
-fn sibling_of(r: u32) -> u32
-    requires { 0 < r }
-    ensures { result ≡ sibling_of r }
-{
-    if r % 2 == 0 { r + 1 } else { r - 1 }
-}
-
 impl SecretKey {
-    // The bytes with the path from a leaf to the root behind them.
-    fn put_path(&self, mut bytes: Vec<u8>, q: u32) -> Result<Vec<u8>, AllocError>
-        requires { q < leaves_of self.now.lms }
-        ensures { IfOk result (λ put. put.items ≡ bytes.items
-            ++ join_pieces (path_node self.now q) (height_of self.now.lms)) }
+    // The number of the lower tree that has the leaf.
+    fn tree_number(&self, q: u64) -> u32
+        requires { q < secret_leaves self.now }
+        ensures value { result ≡ q / leaves_of self.now.tree.lms }
+        ensures inside { result < leaves_of self.now.tree.lms }
     {
-        let r = (1 << self.lms.height()) + q;
-        for level in 0..self.lms.height() {
-            bytes.extend_from_slice(self.node(sibling_of(r >> level)).as_bytes())?;
+        (q / u64::from(self.tree.leaves())) as u32
+    }
+
+    // The signature of two levels of the message, by a leaf that the key has.
+    fn sign_pair(&self, alloc: Global, q: u64, message: &[u8]) -> Result<Vec<u8>, AllocError>
+        requires { q < secret_leaves self.now }
+        ensures { IfOk result (λ signature. signature.items
+            ≡ signature_by Two self.now.tree q message.now) }
+    {
+        let u = self.tree_number(q);
+        let leaf = (q % u64::from(self.tree.leaves())) as u32;
+        match &self.lower {
+            Some(lower) if lower.number == u => lower.sign(alloc, leaf, message),
+            _ => LowerTree::make(alloc, &self.tree, u)?.sign(alloc, leaf, message),
         }
-        Ok(bytes)
     }
 
     // The signature of the message by a leaf that the key has.
-    fn sign_by_leaf(&self, alloc: Global, q: u32, message: &[u8]) -> Result<Vec<u8>, AllocError>
-        requires { q < leaves_of self.now.lms }
-        ensures { IfOk result (λ signature. signature.items
+    fn sign_by_leaf(&self, alloc: Global, q: u64, message: &[u8]) -> Result<Vec<u8>, AllocError>
+        requires { q < secret_leaves self.now }
+        ensures value { IfOk result (λ signature. signature.items
             ≡ lms_signature self.now q message.now) }
+        ensures sixteen { length self.now.tree.id ≡ 16 }
     {
-        let mut signature = Vec::with_capacity(alloc, signature_len(self.lms, self.ots))?;
-        signature.extend_from_slice(&u32_bytes(q))?;
-        signature = sign_onto(signature, &self.id, q, self.ots, &self.seed, message)?;
-        signature.extend_from_slice(&u32_bytes(self.lms.code()))?;
-        self.put_path(signature, q)
+        match self.levels {
+            Levels::One => self.tree.sign_onto(Vec::new(alloc), q as u32, message),
+            Levels::Two => self.sign_pair(alloc, q, message),
+        }
     }
 
-    /// The signature of the message by leaf `q` (RFC 8554, section 5.4), a function of key, leaf
-    /// and message. Nothing here keeps a leaf from signing two messages.
+    /// Makes the lower tree that leaf `q` is in, and keeps it in place of the one that was kept,
+    /// unless it is that: signing by its leaves then costs no tree. A key of one level has none.
+    pub fn keep_tree_of(&mut self, alloc: Global, q: u64) -> Result<(), AllocError>
+        requires { q < secret_leaves self.old }
+        ensures { self.new ≡ self.old }
+    {
+        if self.levels == Levels::One {
+            return Ok(());
+        }
+        let u = self.tree_number(q);
+        let is_kept = match &self.lower {
+            Some(lower) => lower.number == u,
+            None => false,
+        };
+        if !is_kept {
+            self.lower = Some(LowerTree::make(alloc, &self.tree, u)?);
+        }
+        Ok(())
+    }
+
+    /// The signature of the message by leaf `q`, those of the lower trees numbered through (RFC
+    /// 8554, sections 5.4 and 6.2), a function of key, leaf and message. Nothing here keeps a leaf
+    /// from signing two messages. With two levels a tree is made where the leaf's isn't kept.
     pub fn sign(&self, alloc: Global, q: u64, message: &[u8]) -> Result<Vec<u8>, SignFault>
-        ensures leaf { (result ≡ Err SignFault.Leaf) ↔ (leaves_of self.now.lms ≤ q) }
+        ensures leaf { (result ≡ Err SignFault.Leaf) ↔ (secret_leaves self.now ≤ q) }
         ensures bytes { IfOk result
             (λ signature. signature.items ≡ lms_signature self.now q message.now) }
         ensures valid { IfOk result
@@ -80,9 +102,9 @@ impl SecretKey {
         ensures len { IfOk result (λ signature. length signature.items
             ≡ key_signature_len (public_of_secret self.now)) }
     {
-        if q >= 1 << self.lms.height() {
+        if q >= self.leaf_count() {
             return Err(SignFault::Leaf);
         }
-        Ok(self.sign_by_leaf(alloc, q as u32, message)?)
+        Ok(self.sign_by_leaf(alloc, q, message)?)
     }
 }

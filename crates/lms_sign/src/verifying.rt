@@ -1,116 +1,67 @@
 //! Verifying a signature.
-ghost use Rattle.std.specs.Prelude.{◌≡◌, ◌+◌, ◌*◌, ◌≤◌, ◌<◌, IfSome, IsTrue, is_some, length};
-ghost use Rattle.vo_spec.specs.Ots.{is_ots_form};
-ghost use Rattle.vo_spec.specs.OtsSets.{ots_signature_len};
-ghost use Rattle.vo_spec.specs.LmsSets.{height_of, lms_signature_len};
-ghost use Rattle.vo_spec.specs.Lms.{climb, path_at, is_lms_form, ots_part, is_valid_under, lms_valid, lms_candidate};
+ghost use Rattle.std.specs.Prelude.{◌≡◌, ◌==◌, ◌&&◌, ◌+◌, ◌*◌, length, is_some, IfSome};
+ghost use Rattle.vo_spec.specs.Bytes.{u32_at};
+ghost use Rattle.vo_spec.specs.Lms.{tree_signature_len};
+ghost use Rattle.vo_spec.specs.Keys.{lms_valid, pair_valid, upper_signature, lower_key, lower_signature};
 
-use crate::nodes::{leaf_node, parent};
+use crate::lms_key::LmsKey;
 use crate::public_key::PublicKey;
-use lm_ots::{candidate, digest_at, u32_at};
-use vo_spec::{Digest, LmsType, OtsType};
+use crate::tree_verifying::verify_tree;
+use lm_ots::u32_at;
+use vo_spec::Levels;
 
-/// The length of a signature by keys of these sets, in bytes.
-pub(crate) fn signature_len(lms: LmsType, ots: OtsType) -> usize
-    ensures { result ≡ lms_signature_len lms ots }
-{
-    8 + ots.signature_len() + 32 * lms.height() as usize
+/// What stands in a signature of two levels: the upper tree's signature of the lower one's key, that
+/// key, and the lower tree's signature of the message.
+#[derive(Clone, Copy)]
+pub struct Pair<'a> {
+    pub upper: &'a [u8],
+    pub key: &'a [u8],
+    pub lower: &'a [u8],
 }
 
-// The signature has the length and the typecode of the sets, and its leaf is one of the tree's.
-#[tactic(auto, unfolding(vo_spec::specs::Lms::is_lms_form))]
-fn is_form(lms: LmsType, ots: OtsType, signature: &[u8]) -> bool
-    ensures { result ≡ is_lms_form lms ots signature.now }
+/// The parts of a signature that is as long as those of two levels under the upper tree's key are,
+/// and begins as they do.
+pub fn pair_of<'a>(upper: &LmsKey, signature: &'a [u8]) -> Option<Pair<'a>>
+    ensures is { is_some result ≡ (length signature.now == 60 + 2 * tree_signature_len upper.now)
+        && (u32_at signature.now 0 == 1) }
+    ensures upper { IfSome result (λ pair. pair.upper.now
+        ≡ upper_signature upper.now signature.now) }
+    ensures key { IfSome result (λ pair. pair.key.now ≡ lower_key upper.now signature.now) }
+    ensures lower { IfSome result (λ pair. pair.lower.now
+        ≡ lower_signature upper.now signature.now) }
+    ensures whole { IfSome result (λ pair. length pair.key.now ≡ 56) }
 {
-    signature.len() == signature_len(lms, ots)
-        && u32_at(signature, 4 + ots.signature_len()) == lms.code()
-        && u32_at(signature, 0) < 1 << lms.height()
-}
-
-// The digest of the path at a level.
-#[tactic(auto, unfolding(vo_spec::specs::Lms::path_at))]
-fn path_at(ots: OtsType, signature: &[u8], level: u32) -> Digest
-    requires { 8 + ots_signature_len ots + 32 * level + 32 ≤ length signature.now }
-    ensures { result ≡ path_at ots signature.now level }
-{
-    digest_at(signature, 8 + ots.signature_len() + 32 * level as usize)
-}
-
-// The root above the leaf at node `r`, along the signature's path.
-fn root_above(
-    id: &[u8; 16],
-    lms: LmsType,
-    ots: OtsType,
-    r: u32,
-    leaf: &Digest,
-    signature: &[u8],
-) -> Digest
-    requires { length signature.now ≡ lms_signature_len lms ots }
-    ensures { result ≡ climb id.now r (path_at ots signature.now) leaf.now (height_of lms) }
-{
-    let mut node = *leaf;
-    for level in 0..lms.height() {
-        node = parent(id, r >> level, &node, &path_at(ots, signature, level));
-    }
-    node
-}
-
-// The one-time signature inside the signature.
-#[tactic(auto, unfolding(vo_spec::specs::Lms::ots_part))]
-fn ots_part(ots: OtsType, signature: &[u8]) -> &[u8]
-    requires { 4 + ots_signature_len ots ≤ length signature.now }
-    ensures { result.now ≡ ots_part ots signature.now }
-{
-    &signature[4..4 + ots.signature_len()]
-}
-
-// The root that the signature leads to (RFC 8554, algorithm 6a), if the one-time signature has its
-// form.
-fn candidate_root(
-    lms: LmsType,
-    ots: OtsType,
-    id: &[u8; 16],
-    message: &[u8],
-    signature: &[u8],
-) -> Option<Digest>
-    requires { IsTrue (is_lms_form lms ots signature.now) }
-    ensures form { is_some result ≡ is_ots_form ots (ots_part ots signature.now) }
-    ensures value { IfSome result (λ root. root
-        ≡ lms_candidate lms ots id.now message.now signature.now) }
-{
-    let q = u32_at(signature, 0);
-    let Some(key) = candidate(id, q, ots, message, ots_part(ots, signature)) else {
+    let len = upper.signature_len();
+    if signature.len() != 60 + 2 * len || u32_at(signature, 0) != 1 {
         return None;
-    };
-    let r = (1 << lms.height()) + q;
-    let leaf = leaf_node(id, r, &key);
-    Some(root_above(id, lms, ots, r, &leaf, signature))
+    }
+    Some(Pair {
+        upper: &signature[4..4 + len],
+        key: &signature[4 + len..60 + len],
+        lower: &signature[60 + len..],
+    })
 }
 
-// The signature is valid under a key of these parts.
-#[tactic(auto, unfolding(vo_spec::specs::Lms::is_valid_under))]
-fn is_valid_under(
-    lms: LmsType,
-    ots: OtsType,
-    id: &[u8; 16],
-    root: &Digest,
-    message: &[u8],
-    signature: &[u8],
-) -> bool
-    ensures { result ≡ is_valid_under lms ots id.now root.now message.now signature.now }
+// The signature of two levels is valid under the upper tree's key.
+fn verify_pair(upper: &LmsKey, message: &[u8], signature: &[u8]) -> bool
+    ensures { result ≡ pair_valid upper.now message.now signature.now }
 {
-    if !is_form(lms, ots, signature) {
+    let Some(pair) = pair_of(upper, signature) else {
         return false;
-    }
-    match candidate_root(lms, ots, id, message, signature) {
-        Some(found) => found == *root,
-        None => false,
-    }
+    };
+    let Some(lower) = upper.read_alike(pair.key) else {
+        return false;
+    };
+    verify_tree(upper, pair.key, pair.upper) && verify_tree(&lower, message, pair.lower)
 }
 
-/// The signature of the message is valid under the key (RFC 8554, algorithm 6).
+/// The signature of the message is valid under the key (RFC 8554, algorithm 6, and section 6.3 for
+/// two levels).
 pub fn verify(key: &PublicKey, message: &[u8], signature: &[u8]) -> bool
     ensures { result ≡ lms_valid key.now message.now signature.now }
 {
-    is_valid_under(key.lms, key.ots, &key.id, &key.root, message, signature)
+    match key.levels {
+        Levels::One => verify_tree(&key.tree, message, signature),
+        Levels::Two => verify_pair(&key.tree, message, signature),
+    }
 }

@@ -8,7 +8,7 @@ use Rattle.vo_spec.specs.declared.checks.AuditFault.{AuditFault}
 use Rattle.vo_spec.specs.Audits.{AuditOf}
 use Rattle.vo_spec.specs.Conditions.{Query}
 use Rattle.vo_spec.specs.Honest.{Stored, catalog_of}
-use Rattle.vo_spec.specs.Lms.{key_id}
+use Rattle.vo_spec.specs.Keys.{key_id}
 use Rattle.vo_spec.specs.Owners.{IsSigned, IsJournalOf, FailsAt}
 use Rattle.vo_spec.specs.Records.{catalog_digest}
 use Rattle.vo_spec.specs.Replies.{proofs_bytes}

@@ -1,18 +1,10 @@
 -- Version 0, with which an owner starts.
 use Rattle.std.proofs.Common.{◌≡◌, ℕ, List, [], refl, ap}
 use Rattle.vo_spec.specs.declared.records.Entry.{Entry}
-use Rattle.vo_spec.specs.Lms.{leaf_count}
-use Rattle.vo_spec.specs.LmsSets.{leaves_of}
-use Rattle.vo_spec.specs.Secret.{Secret, public_of_secret, tree_node}
-use Rattle.lms_sign.proofs.Keys.{leaf_count-public_bytes}
+use Rattle.vo_spec.specs.Secret.{Secret}
 use Rattle.owner_roots.specs.Owners.{IsFirstEntry, IsSignedFor, first_roots}
 use Rattle.owner_state.specs.Stepping.{first_entry, signed_entry}
 use Rattle.owner_state.specs.EntriesOnTrees.{entry_on}
-
--- the public key says how many leaves the secret one has
-pub leaves_told : (secret : Secret) → leaf_count (public_of_secret secret) ≡ leaves_of secret.lms
-unfolding public_of_secret
-leaves_told secret = leaf_count-public_bytes secret.lms secret.ots secret.id (tree_node secret 1)
 
 -- the entry that an owner starts with is the one that is sealed as version 0
 pub started : (secret : Secret) → first_entry secret ≡ entry_on secret 0 [] []

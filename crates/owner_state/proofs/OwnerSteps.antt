@@ -8,12 +8,11 @@ use Rattle.vo_spec.specs.declared.tables.Command.{Command}
 use Rattle.vo_spec.specs.declared.records.Record.{Record}
 use Rattle.vo_spec.specs.declared.records.Entry.{Entry}
 use Rattle.vo_spec.specs.Bytes.{u16_bytes}
-use Rattle.vo_spec.specs.LmsSets.{leaves_of}
 use Rattle.vo_spec.specs.Journals.{max_proofs}
 use Rattle.vo_spec.specs.Replies.{proofs_bytes}
-use Rattle.vo_spec.specs.Lms.{leaf_of, lms_valid}
+use Rattle.vo_spec.specs.Keys.{leaf_of, lms_valid}
 use Rattle.vo_spec.specs.Records.{record_bytes}
-use Rattle.vo_spec.specs.Secret.{Secret, public_of_secret, lms_signature}
+use Rattle.vo_spec.specs.Secret.{Secret, public_of_secret, lms_signature, secret_leaves}
 use Rattle.owner_roots.specs.declared.owner_fault.OwnerFault.{OwnerFault}
 use Rattle.owner_roots.specs.declared.owner_fault.OwnerFault.TheVariants as fault
 use Rattle.owner_roots.specs.declared.roots.Roots.{Roots}
@@ -91,7 +90,7 @@ signed_for key roots e is leaf valid = record {
 abbrev pub Steps : Secret → Roots → List Command → List ℕ → Result Step OwnerFault → Type 0
 Steps secret roots batch proofs answer = (answer ≡ Err fault.Memory) ⊎ StepOf secret roots batch proofs answer
 
-pub step_made : (secret : Secret) (roots : Roots) (batch : List Command) (proofs : List ℕ) (next : Roots) (step : Step) → roots.version + 1 < leaves_of secret.lms
+pub step_made : (secret : Secret) (roots : Roots) (batch : List Command) (proofs : List ℕ) (next : Roots) (step : Step) → roots.version + 1 < secret_leaves secret
     → NextOf roots batch proofs (Ok next) → step ≡ step_to secret batch proofs next → StepOf secret roots batch proofs (Ok step)
 unfolding StepOf
 step_made secret roots batch proofs next step left next_is is = inr (left, Ok next, next_is, ap made is)
@@ -99,20 +98,20 @@ step_made secret roots batch proofs next step left next_is is = inr (left, Ok ne
     made : Step → Result Step OwnerFault
     made s = Ok s
 
-pub step_refused : (secret : Secret) (roots : Roots) (batch : List Command) (proofs : List ℕ) (why : OwnerFault) → roots.version + 1 < leaves_of secret.lms
+pub step_refused : (secret : Secret) (roots : Roots) (batch : List Command) (proofs : List ℕ) (why : OwnerFault) → roots.version + 1 < secret_leaves secret
     → (why ≡ fault.Memory) ⊎ NextOf roots batch proofs (Err why) → Steps secret roots batch proofs (Err why)
 unfolding StepOf
 step_refused secret roots batch proofs why left (inl none) = inl (cc)
 step_refused secret roots batch proofs why left (inr found) = inr (inr (left, Err why, found, refl))
 
-pub step_spent : (secret : Secret) (roots : Roots) (batch : List Command) (proofs : List ℕ) → leaves_of secret.lms ≤ roots.version + 1
+pub step_spent : (secret : Secret) (roots : Roots) (batch : List Command) (proofs : List ℕ) → secret_leaves secret ≤ roots.version + 1
     → StepOf secret roots batch proofs (Err fault.KeySpent)
 unfolding StepOf
 step_spent secret roots batch proofs spent = inl (spent, refl)
 
 -- What a step is made of.
 pub record IsMade (secret : Secret) (roots : Roots) (batch : List Command) (proofs : List ℕ) (step : Step) : Type 0 where
-  pub left : roots.version + 1 < leaves_of secret.lms
+  pub left : roots.version + 1 < secret_leaves secret
   pub next : NextOf roots batch proofs (Ok step.roots)
   pub entry : step.entry ≡ signed_entry secret step.roots batch proofs
 

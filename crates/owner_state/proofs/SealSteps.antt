@@ -11,8 +11,7 @@ use Rattle.vo_spec.specs.declared.tables.Batch.{Batch}
 use Rattle.vo_spec.specs.declared.tables.Command.{Command}
 use Rattle.vo_spec.specs.declared.tables.CommandFault.{CommandFault}
 use Rattle.vo_spec.specs.declared.tables.Table.{Table}
-use Rattle.vo_spec.specs.LmsSets.{leaves_of}
-use Rattle.vo_spec.specs.Secret.{Secret}
+use Rattle.vo_spec.specs.Secret.{Secret, secret_leaves}
 use Rattle.vo_spec.specs.Batches.{FitsBatch}
 use Rattle.vo_spec.specs.Tables.{apply_batch, tables_after}
 use Rattle.vo_spec.specs.declared.records.Entry.{Entry}
@@ -73,7 +72,7 @@ pub record IsSealed (secret : Secret) (cs : List (List Command)) (n : ℕ) (s : 
   pub at : IsAt secret n s
   pub trees : s.tables ≡ honest_trees (take n cs)
   pub slots_are : s.slots.items ≡ flat_map slot (seal_batches secret (take n cs))
-  pub left : seal_fault (leaves_of secret.lms) ([] ∷ take n cs) (drop n cs) ≡ seal_fault (leaves_of secret.lms) ([] ∷ []) cs
+  pub left : seal_fault (secret_leaves secret) ([] ∷ take n cs) (drop n cs) ≡ seal_fault (secret_leaves secret) ([] ∷ []) cs
 
 pub first_sealed : (secret : Secret) (cs : List (List Command)) (s : Sealed) → IsAt secret 0 s → s.tables ≡ [] → s.slots.items ≡ slot (entry_on secret 0 [] []) → IsSealed secret cs 0 s
 unfolding honest_trees seal_batches
@@ -181,9 +180,9 @@ next_sealed secret cs n batch before after ok s i done =
           ∙ sym (flat_map-append slot (seal_batches secret (take n cs)) (sealed_entry secret (Earlier cs n) batch ∷ []))
           ∙ ap (flat_map slot) (sym (sealed_grows secret (take n cs) batch))
           ∙ ap (λ (bs : List (List Command)). flat_map slot (seal_batches secret bs)) (sym (taken_on cs n batch i));
-      left = ap (λ (bs : List (List Command)). seal_fault (leaves_of secret.lms) ([] ∷ bs) (drop (n + 1) cs)) (taken_on cs n batch i)
-          ∙ sym (no_fault_here (leaves_of secret.lms) (Earlier cs n) batch (drop (n + 1) cs) (subst (λ (v : ℕ). v < leaves_of secret.lms) (sym many) done.0) accepted)
-          ∙ ap (seal_fault (leaves_of secret.lms) (Earlier cs n)) (sym (left_on cs n batch i))
+      left = ap (λ (bs : List (List Command)). seal_fault (secret_leaves secret) ([] ∷ bs) (drop (n + 1) cs)) (taken_on cs n batch i)
+          ∙ sym (no_fault_here (secret_leaves secret) (Earlier cs n) batch (drop (n + 1) cs) (subst (λ (v : ℕ). v < secret_leaves secret) (sym many) done.0) accepted)
+          ∙ ap (seal_fault (secret_leaves secret) (Earlier cs n)) (sym (left_on cs n batch i))
           ∙ s.left;
     }
 
@@ -191,9 +190,9 @@ next_sealed secret cs n batch before after ok s i done =
 
 pub not_sealed : (secret : Secret) (cs : List (List Command)) (n : ℕ) (batch : List Command) (before : Sealed) (why : SealFault) → AllByRecursion FitsBatch cs
     → IsSealed secret cs n before → IsNext cs n batch → Seals secret (n + 1) before batch (Err why) → why ≢ Memory
-    → seal_fault (leaves_of secret.lms) ([] ∷ []) cs ≡ Some why
+    → seal_fault (secret_leaves secret) ([] ∷ []) cs ≡ Some why
 not_sealed secret cs n batch before why ok s i told known =
-    sym s.left ∙ ap (seal_fault (leaves_of secret.lms) (Earlier cs n)) (left_on cs n batch i) ∙ by_fault why told known
+    sym s.left ∙ ap (seal_fault (secret_leaves secret) (Earlier cs n)) (left_on cs n batch i) ∙ by_fault why told known
   where
     trees_before : before.tables ≡ honest_trees (Earlier cs n)
     trees_before = s.trees ∙ sym (no_trees_before (take n cs))
@@ -205,22 +204,22 @@ not_sealed secret cs n batch before why ok s i told known =
         gives_plain (λ (ss : List Stored). ss) batch before.tables (tables_after (Earlier cs n)) (Err (batch_fault.Command index fault)) r.fits.each e
         (subst (λ (ss : List Stored). RepresentTables ss (tables_after (Earlier cs n))) (sym trees_before) z.0) z.1
 
-    by_fault : (f : SealFault) → Seals secret (n + 1) before batch (Err f) → f ≢ Memory → seal_fault (leaves_of secret.lms) (Earlier cs n) (batch ∷ drop (n + 1) cs) ≡ Some f
-    by_fault KeySpent t k = spent_here (leaves_of secret.lms) (Earlier cs n) batch (drop (n + 1) cs) (subst (λ (v : ℕ). leaves_of secret.lms ≤ v) (sym (long cs n batch i)) t)
+    by_fault : (f : SealFault) → Seals secret (n + 1) before batch (Err f) → f ≢ Memory → seal_fault (secret_leaves secret) (Earlier cs n) (batch ∷ drop (n + 1) cs) ≡ Some f
+    by_fault KeySpent t k = spent_here (secret_leaves secret) (Earlier cs n) batch (drop (n + 1) cs) (subst (λ (v : ℕ). secret_leaves secret ≤ v) (sym (long cs n batch i)) t)
     by_fault (Refused index fault) t k =
-        refused_here (leaves_of secret.lms) (Earlier cs n) batch (drop (n + 1) cs) index fault
-        (subst (λ (v : ℕ). v < leaves_of secret.lms) (sym (long cs n batch i)) t.0) (refused index fault t.1)
+        refused_here (secret_leaves secret) (Earlier cs n) batch (drop (n + 1) cs) index fault
+        (subst (λ (v : ℕ). v < secret_leaves secret) (sym (long cs n batch i)) t.0) (refused index fault t.1)
     by_fault Memory t k = absurd (k refl)
 
 -- The end.
 
 pub all_sealed : (secret : Secret) (cs : List (List Command)) (n : ℕ) (last : Sealed) → IsSealed secret cs n last → n ≡ length cs
-    → (last.slots.items ≡ flat_map slot (seal_batches secret cs)) × (seal_fault (leaves_of secret.lms) ([] ∷ []) cs ≡ None)
+    → (last.slots.items ≡ flat_map slot (seal_batches secret cs)) × (seal_fault (secret_leaves secret) ([] ∷ []) cs ≡ None)
 unfolding seal_fault
 all_sealed secret cs n last s e =
     let all : take n cs ≡ cs = take_all n cs (omega arith) in (
       s.slots_are ∙ ap (λ (bs : List (List Command)). flat_map slot (seal_batches secret bs)) all,
-      sym s.left ∙ ap (seal_fault (leaves_of secret.lms) ([] ∷ take n cs)) (drop_all n cs (omega arith)),
+      sym s.left ∙ ap (seal_fault (secret_leaves secret) ([] ∷ take n cs)) (drop_all n cs (omega arith)),
     )
 
 -- the batch that a walk over all of them comes to
@@ -245,7 +244,7 @@ honest_leads version stored after batch r done =
     )
 
 pub honest_step : (secret : Secret) (version : ℕ) (stored after : List Stored) (batch : List Command) (answer : Result Step OwnerFault) → IsReady batch stored
-    → work_all batch stored ≡ Ok after → version + 1 < leaves_of secret.lms
+    → work_all batch stored ≡ Ok after → version + 1 < secret_leaves secret
     → Steps secret (honest_roots version stored) batch (proofs_bytes (honest_proofs batch stored)) answer → answer ≢ Err owner.Memory
     → answer ≡ Ok (step_to secret batch (proofs_bytes (honest_proofs batch stored)) (honest_roots (version + 1) after))
 honest_step secret version stored after batch answer r done left (inl none) known = absurd (known none)
@@ -259,7 +258,7 @@ honest_step secret version stored after batch answer r done left (inr is) known 
 -- So an owner that stands there goes on to the roots of the tables behind the batch.
 pub sealed_step : (before : Held) (stored after : List Stored) (batch : List Command) (proofs : List ℕ) (answer : Result Step OwnerFault)
     → before.roots ≡ honest_roots before.roots.version stored → IsReady batch stored → work_all batch stored ≡ Ok after
-    → proofs ≡ proofs_bytes (honest_proofs batch stored) → before.roots.version + 1 < leaves_of before.key.lms
+    → proofs ≡ proofs_bytes (honest_proofs batch stored) → before.roots.version + 1 < secret_leaves before.key
     → Steps before.key before.roots batch proofs answer → answer ≢ Err owner.Memory
     → answer ≡ Ok (step_to before.key batch (proofs_bytes (honest_proofs batch stored)) (honest_roots (before.roots.version + 1) after))
 sealed_step before stored after batch proofs answer at r done is left steps known =

@@ -10,8 +10,7 @@ use Rattle.vo_spec.specs.declared.tables.Table.{Table}
 use Rattle.vo_spec.specs.declared.tables.Batch.{Batch}
 use Rattle.vo_spec.specs.Batches.{FitsBatch}
 use Rattle.vo_spec.specs.Tables.{apply_batch, tables_after}
-use Rattle.vo_spec.specs.LmsSets.{leaves_of}
-use Rattle.vo_spec.specs.Secret.{Secret, public_of_secret}
+use Rattle.vo_spec.specs.Secret.{Secret, public_of_secret, secret_leaves}
 use Rattle.vo_spec.specs.Honest.{seal_batches}
 use Rattle.vo_spec.specs.Journals.{journal_bytes}
 use Rattle.vo_spec.specs.Owners.{IsLoadable}
@@ -55,14 +54,14 @@ no_fault leaves earlier (batch ∷ batches) there e =
 
 -- what `seal` has sealed may be sealed
 pub sealable : (secret : Secret) (batches : List (List Command)) → SignsValidly secret → AllByRecursion FitsBatch batches
-    → seal_fault (leaves_of secret.lms) ([] ∷ []) batches ≡ None → AreSealable secret batches
+    → seal_fault (secret_leaves secret) ([] ∷ []) batches ≡ None → AreSealable secret batches
 sealable secret batches signs fit e =
-    let n = no_fault (leaves_of secret.lms) [] batches (some_leaf secret.lms) e in
+    let n = no_fault (secret_leaves secret) [] batches (some_leaf secret) e in
     record { signs = signs; fit = fit; accepted = n.0; few = omega (arith, n.1) }
 
 -- and a journal of it is one of the key's owner, and one that a store takes
 pub sealed_journal : (secret : Secret) (batches : List Batch) (bytes : List ℕ) → SignsValidly secret → FitEach batches
-    → seal_fault (leaves_of secret.lms) ([] ∷ []) (commands_of batches) ≡ None → bytes ≡ journal_bytes (seal_batches secret (commands_of batches))
+    → seal_fault (secret_leaves secret) ([] ∷ []) (commands_of batches) ≡ None → bytes ≡ journal_bytes (seal_batches secret (commands_of batches))
     → IsOwned (public_of_secret secret) bytes (seal_batches secret (commands_of batches)) × IsLoadable (public_of_secret secret) bytes (seal_batches secret (commands_of batches))
 sealed_journal secret batches bytes signs fit e is =
     let key = public_of_secret secret in

@@ -1,8 +1,7 @@
 -- What sealing one batch more gives.
 use Rattle.std.specs.Prelude.{◌≡◌, ℕ, ◌<◌, ◌≤◌, List, ◌++◌, Result, Ok, Err}
 use Rattle.vo_spec.specs.declared.tables.Command.{Command}
-use Rattle.vo_spec.specs.LmsSets.{leaves_of}
-use Rattle.vo_spec.specs.Secret.{Secret}
+use Rattle.vo_spec.specs.Secret.{Secret, secret_leaves}
 use Rattle.vo_spec.specs.Journals.{slot}
 use Rattle.vo_spec.specs.Honest.{work_all}
 use Rattle.stored_tables.specs.Working.{work_from}
@@ -21,10 +20,10 @@ pub record IsAt (secret : Secret) (version : ℕ) (s : Sealed) : Type 0 where
 -- its entry behind those before; or why there is none, unless memory ran out.
 abbrev pub Seals : Secret → ℕ → Sealed → List Command → Result Sealed SealFault → Type 0
 Seals secret version before batch (Ok after) =
-    (version < leaves_of secret.lms) × (work_all batch before.tables ≡ Ok after.tables)
+    (version < secret_leaves secret) × (work_all batch before.tables ≡ Ok after.tables)
     × (after.slots.items ≡ before.slots.items ++ slot (entry_on secret version before.tables batch))
     × IsAt secret version after
-Seals secret version before batch (Err KeySpent) = leaves_of secret.lms ≤ version
-Seals secret version before batch (Err (Refused index why)) = (version < leaves_of secret.lms)
+Seals secret version before batch (Err KeySpent) = secret_leaves secret ≤ version
+Seals secret version before batch (Err (Refused index why)) = (version < secret_leaves secret)
     × (work_from 0 batch before.tables ≡ Err (index, why))
 Seals secret version before batch (Err Memory) = Unit {0}

@@ -4,10 +4,9 @@ use Rattle.std.specs.Prelude.{◌≡◌, ◌⊎◌, ℕ, ◌+◌, ◌<◌, ◌�
 use Rattle.std.specs.Result.{result_map_both}
 use Rattle.vo_spec.specs.declared.tables.Command.{Command}
 use Rattle.vo_spec.specs.declared.records.Entry.{Entry}
-use Rattle.vo_spec.specs.LmsSets.{leaves_of}
 use Rattle.vo_spec.specs.Records.{record_bytes}
 use Rattle.vo_spec.specs.Replies.{proofs_bytes}
-use Rattle.vo_spec.specs.Secret.{Secret, public_of_secret, lms_signature}
+use Rattle.vo_spec.specs.Secret.{Secret, public_of_secret, lms_signature, secret_leaves}
 use Rattle.owner_roots.specs.declared.owner_fault.OwnerFault.{OwnerFault}
 use Rattle.owner_roots.specs.declared.owner_fault.OwnerFault.TheVariants as fault
 use Rattle.owner_roots.specs.declared.roots.Roots.{Roots}
@@ -39,8 +38,8 @@ step_to secret batch proofs roots =
 -- answer of this.
 unfoldable pub StepOf : Secret → Roots → List Command → List ℕ → Result Step OwnerFault → Type 0
 StepOf secret roots batch proofs answer =
-    ((leaves_of secret.lms ≤ roots.version + 1) × (answer ≡ Err fault.KeySpent))
-    ⊎ ((roots.version + 1 < leaves_of secret.lms)
+    ((secret_leaves secret ≤ roots.version + 1) × (answer ≡ Err fault.KeySpent))
+    ⊎ ((roots.version + 1 < secret_leaves secret)
     × (next : Result Roots OwnerFault) × NextOf roots batch proofs next
     × (answer ≡ result_map_both (step_to secret batch proofs) (λ why. why) next))
 

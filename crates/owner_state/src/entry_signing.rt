@@ -1,9 +1,8 @@
 //! Entries, as their owner signs them.
 ghost use Rattle.std.specs.Prelude.{◌≡◌, ◌≤◌, ◌<◌, IfOk, length};
 ghost use Rattle.vo_spec.specs.Batches.{FitsBatch};
-ghost use Rattle.vo_spec.specs.LmsSets.{leaves_of};
 ghost use Rattle.vo_spec.specs.Records.{FitsCatalog};
-ghost use Rattle.vo_spec.specs.Secret.{public_of_secret};
+ghost use Rattle.vo_spec.specs.Secret.{public_of_secret, secret_leaves};
 ghost use Rattle.vo_spec.specs.Journals.{FitsEntry, max_proofs};
 ghost use Rattle.owner_roots.specs.Owners.{IsSignedFor};
 ghost use Rattle.owner_state.specs.Stepping.{signed_entry};
@@ -23,7 +22,7 @@ pub(crate) fn sign_entry(
     batch: Batch,
     proofs: Vec<u8>,
 ) -> Result<Entry, AllocError>
-    requires leaf { roots.now.version < leaves_of key.now.lms }
+    requires leaf { roots.now.version < secret_leaves key.now }
     requires catalog { FitsCatalog roots.now.catalog }
     requires batch { FitsBatch batch.commands }
     requires proofs { length proofs.items ≤ max_proofs }

@@ -56,6 +56,7 @@ fn seal_version(alloc: Global, sealed: &mut Sealed, batch: &Batch) -> Result<(),
     if sealed.owner.is_spent() {
         return Err(SealFault::KeySpent);
     }
+    sealed.owner.prepare(alloc)?;
     let mut proofs = Vec::new(alloc);
     let tables = mem::replace(&mut sealed.tables, StoredTables::new(alloc));
     sealed.tables = match work_batch(alloc, tables, batch.commands.as_slice(), &mut proofs) {

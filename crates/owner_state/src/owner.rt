@@ -28,11 +28,10 @@ impl Model for Owner {
 }
 
 impl Owner {
-    ghost use Rattle.std.specs.Prelude.{◌≡◌, ◌↔◌, ◌+◌, ◌≤◌, IfOk, IsTrue};
+    ghost use Rattle.std.specs.Prelude.{◌≡◌, ◌↔◌, ◌+◌, ◌<◌, ◌≤◌, IfOk, IsTrue, false};
     ghost use Rattle.vo_spec.specs.Journals.{FitsEntry};
-    ghost use Rattle.vo_spec.specs.LmsSets.{leaves_of};
     ghost use Rattle.vo_spec.specs.Records.{FitsCatalog};
-    ghost use Rattle.vo_spec.specs.Secret.{public_of_secret};
+    ghost use Rattle.vo_spec.specs.Secret.{public_of_secret, secret_leaves};
     ghost use Rattle.vo_laws.specs.Sealing.{SignsValidly};
     ghost use Rattle.owner_roots.specs.Owners.{IsFirstEntry, IsNextEntry, first_roots};
     ghost use Rattle.owner_state.specs.Stepping.{first_entry};
@@ -48,12 +47,13 @@ impl Owner {
         ensures signs { IfOk result (λ _. SignsValidly key.now) }
     {
         let proofs = no_proofs(alloc)?;
-        let own = key.copy(alloc)?;
+        let mut own = key.copy(alloc)?;
+        own.keep_tree_of(alloc, 0)?;
         let roots = first_roots(alloc);
         let batch = Batch {
             commands: List::new(alloc),
         };
-        let entry = sign_entry(alloc, key, &roots, batch, proofs)?;
+        let entry = sign_entry(alloc, &own, &roots, batch, proofs)?;
         Ok((Owner { key: own, roots }, entry))
     }
 
@@ -67,9 +67,21 @@ impl Owner {
 
     /// Whether the key has no leaf left for another version.
     pub(crate) fn is_spent(&self) -> bool
-        ensures { IsTrue result ↔ (leaves_of self.now.key.lms ≤ self.now.roots.version + 1) }
+        ensures spent { IsTrue result ↔ (secret_leaves self.now.key ≤ self.now.roots.version + 1) }
+        ensures few { result ≡ false → self.now.roots.version + 1 < 1048576 }
     {
-        self.roots.version >= self.key.public().leaf_count() - 1
+        self.roots.version >= self.key.leaf_count() - 1
+    }
+
+    /// Makes the tree of a key of two levels that the next version is signed in, and keeps it, so
+    /// that each is made once by an owner that takes one step after the other.
+    pub fn prepare(&mut self, alloc: Global) -> Result<(), AllocError>
+        ensures { self.new ≡ self.old }
+    {
+        if self.is_spent() {
+            return Ok(());
+        }
+        self.key.keep_tree_of(alloc, self.roots.version + 1)
     }
 
     /// Takes a step: the owner stands behind its entry from then on.

@@ -1,7 +1,7 @@
 //! The record of a version, and whether an entry has it, signed.
 ghost use Rattle.std.specs.Prelude.{◌≡◌, ◌↔◌, IsTrue};
 ghost use Rattle.vo_spec.specs.Records.{FitsCatalog, FitsRecord};
-ghost use Rattle.vo_spec.specs.Lms.{key_id};
+ghost use Rattle.vo_spec.specs.Keys.{key_id};
 ghost use Rattle.vo_spec.specs.Owners.{IsSigned};
 ghost use Rattle.vo_spec.specs.Honest.{honest_record};
 ghost use Rattle.owner_roots.specs.Owners.{IsSignedFor, record_of_roots};

@@ -75,6 +75,7 @@ fn replay_behind(alloc: Global, owner: &mut Owner, entries: &[Entry]) -> Result<
         → IsNoStepAt owner.old.key entries.now index }
 {
     for index in 1..entries.len() {
+        owner.prepare(alloc)?;
         match step_as(alloc, owner, &entries[index])? {
             Some(step) => owner.advance(step),
             None => {

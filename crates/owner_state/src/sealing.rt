@@ -1,7 +1,6 @@
 //! Sealing: the journal of an owner's batches.
 ghost use Rattle.std.specs.Prelude.{◌≡◌, ◌≢◌, [], ◌∷◌, IfOk, IfErr, None, Some, flat_map};
-ghost use Rattle.vo_spec.specs.LmsSets.{leaves_of};
-ghost use Rattle.vo_spec.specs.Secret.{public_of_secret};
+ghost use Rattle.vo_spec.specs.Secret.{public_of_secret, secret_leaves};
 ghost use Rattle.vo_spec.specs.Journals.{journal_bytes, slot};
 ghost use Rattle.vo_spec.specs.Honest.{seal_batches};
 ghost use Rattle.vo_spec.specs.Owners.{IsLoadable};
@@ -57,9 +56,9 @@ pub fn seal(alloc: Global, key: &SecretKey, batches: List<Batch>) -> Result<Vec<
         IsLoadable (public_of_secret key.now) journal.items
         (seal_batches key.now (commands_of batches))) }
     ensures sealed { IfOk result (λ _.
-        seal_fault (leaves_of key.now.lms) ([] ∷ []) (commands_of batches) ≡ None) }
+        seal_fault (secret_leaves key.now) ([] ∷ []) (commands_of batches) ≡ None) }
     ensures fault { IfErr result (λ fault. fault ≢ SealFault.Memory
-        → seal_fault (leaves_of key.now.lms) ([] ∷ []) (commands_of batches) ≡ Some fault) }
+        → seal_fault (secret_leaves key.now) ([] ∷ []) (commands_of batches) ≡ Some fault) }
 {
     let mut journal = seal_each(alloc, key, batches.as_slice())?;
     journal.extend_from_slice(&[0])?;
@@ -72,9 +71,9 @@ fn seal_each(alloc: Global, key: &SecretKey, batches: &[Batch]) -> Result<Vec<u8
     ensures slots { IfOk result (λ slots. slots.items
         ≡ flat_map slot (seal_batches key.now (commands_of batches.now))) }
     ensures sealed { IfOk result (λ _.
-        seal_fault (leaves_of key.now.lms) ([] ∷ []) (commands_of batches.now) ≡ None) }
+        seal_fault (secret_leaves key.now) ([] ∷ []) (commands_of batches.now) ≡ None) }
     ensures fault { IfErr result (λ fault. fault ≢ SealFault.Memory
-        → seal_fault (leaves_of key.now.lms) ([] ∷ []) (commands_of batches.now) ≡ Some fault) }
+        → seal_fault (secret_leaves key.now) ([] ∷ []) (commands_of batches.now) ≡ Some fault) }
 {
     let mut sealed = seal_first(alloc, key)?;
     for batch in batches {

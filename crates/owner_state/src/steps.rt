@@ -2,9 +2,8 @@
 ghost use Rattle.std.specs.Prelude.{◌≡◌, ◌⊎◌, ◌<◌, ◌≤◌, Err, IfOk, length};
 ghost use Rattle.vo_spec.specs.Batches.{FitsBatch};
 ghost use Rattle.vo_spec.specs.Journals.{FitsEntry, max_proofs};
-ghost use Rattle.vo_spec.specs.LmsSets.{leaves_of};
 ghost use Rattle.vo_spec.specs.Records.{FitsCatalog};
-ghost use Rattle.vo_spec.specs.Secret.{public_of_secret};
+ghost use Rattle.vo_spec.specs.Secret.{public_of_secret, secret_leaves};
 ghost use Rattle.owner_roots.specs.Owners.{IsNextEntry, IsSignedFor};
 ghost use Rattle.owner_state.specs.Stepping.{StepOf, signed_entry};
 
@@ -32,7 +31,7 @@ fn sign_copy(
     batch: &Batch,
     proofs: &[u8],
 ) -> Result<Entry, AllocError>
-    requires leaf { roots.now.version < leaves_of key.now.lms }
+    requires leaf { roots.now.version < secret_leaves key.now }
     requires catalog { FitsCatalog roots.now.catalog }
     requires batch { FitsBatch batch.now.commands }
     requires proofs { length proofs.now ≤ max_proofs }
@@ -58,6 +57,7 @@ impl Owner {
             self.now.roots step.entry step.roots) }
         ensures catalog { IfOk result (λ step. FitsCatalog step.roots.catalog) }
         ensures fits { IfOk result (λ step. FitsEntry step.entry) }
+        ensures few { IfOk result (λ step. step.roots.version < 1048576) }
     {
         if self.is_spent() {
             return Err(OwnerFault::KeySpent);

@@ -7,8 +7,7 @@ use Rattle.vo_spec.specs.Batches.{FitsBatch}
 use Rattle.vo_spec.specs.Tables.{tables_after}
 use Rattle.vo_spec.specs.Conditions.{Query}
 use Rattle.vo_spec.specs.Results.{result}
-use Rattle.vo_spec.specs.LmsSets.{leaves_of}
-use Rattle.vo_spec.specs.Secret.{Secret}
+use Rattle.vo_spec.specs.Secret.{Secret, secret_leaves}
 use Rattle.vo_spec.specs.Replies.{Reply, reply_bytes, max_reply}
 use Rattle.vo_spec.specs.Honest.{reply_of, seal_batches}
 use Rattle.vo_laws.specs.Sealing.{AreAcceptedAfter, SignsValidly}
@@ -19,7 +18,7 @@ pub record AreSealable (secret : Secret) (batches : List (List Command)) : Type 
   pub signs : SignsValidly secret
   pub fit : AllByRecursion FitsBatch batches
   pub accepted : AreAcceptedAfter [] batches
-  pub few : length batches < leaves_of secret.lms
+  pub few : length batches < secret_leaves secret
 
 -- a store that has loaded the journal of these batches gives this reply, which isn't over the limit
 abbrev pub IsHonestReply : Secret → List (List Command) → Query → Reply → Type 0

@@ -69,10 +69,10 @@ fn commitment_form(alloc: Global, commitment: Commitment<'_>) -> Result<String, 
         seed,
         address,
         script,
-        height,
+        shape,
     } = commitment;
-    let height = height.number();
-    Ok(format!(in alloc; "(own {seed:?} {address:?} {script:?} {height})")?)
+    let (height, levels) = (shape.height.number(), shape.levels.number());
+    Ok(format!(in alloc; "(own {seed:?} {address:?} {script:?} {height} {levels})")?)
 }
 
 fn service_form(alloc: Global, service: Service<'_>) -> Result<String, NoAnswer> {
@@ -81,17 +81,21 @@ fn service_form(alloc: Global, service: Service<'_>) -> Result<String, NoAnswer>
     Ok(format!(in alloc; "(serve {address:?} {key:?} {journal:?} {count})")?)
 }
 
-/// The command and its words in quotes, and what its option gives.
+/// The command and its words in quotes, and what its options give.
 fn command_form(alloc: Global, command: Command<'_>) -> Result<String, NoAnswer> {
     Ok(match command {
-        Command::Keygen { seed, height } => {
-            format!(in alloc; "(keygen {seed:?} {})", height.number())?
+        Command::Keygen { seed, shape } => {
+            let (height, levels) = (shape.height.number(), shape.levels.number());
+            format!(in alloc; "(keygen {seed:?} {height} {levels})")?
         }
         Command::Seal {
             seed,
             script,
-            height,
-        } => format!(in alloc; "(seal {seed:?} {script:?} {})", height.number())?,
+            shape,
+        } => {
+            let (height, levels) = (shape.height.number(), shape.levels.number());
+            format!(in alloc; "(seal {seed:?} {script:?} {height} {levels})")?
+        }
         Command::Answer {
             key,
             journal,

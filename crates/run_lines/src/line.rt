@@ -1,12 +1,12 @@
 //! A line: the word of a call, and what it is asked of.
 use crate::changes::{Change, Changes};
 use crate::disk_run::{Crash, DiskRun};
+use crate::failing::take_failing;
 use crate::folder::{Attempt, Peer};
 use crate::pieces::{
     Pieces, take_bytes, take_name, take_names, take_number, take_piece, take_words,
 };
 use line_pieces::NoAnswer;
-use outside::Failure;
 use std::alloc::Global;
 
 /// What a line asks for.
@@ -53,18 +53,22 @@ fn line_of(alloc: Global, word: &str, pieces: &mut Pieces<'_>) -> Result<Line, N
         "keep" => Line::Keep(take_name(alloc, pieces)?, take_bytes(alloc, pieces)?),
         "splice" => Line::Splice(take_name(alloc, pieces)?, take_splice(alloc, pieces)?),
         "frame" => Line::Frame(take_name(alloc, pieces)?, take_frame(alloc, pieces)?),
-        "run" => Line::Run(take_run(alloc, pieces)?),
+        "fail" => take_failing(alloc, pieces)?,
         "make" => Line::Make(take_name(alloc, pieces)?, take_run(alloc, pieces)?),
         "each_cut" => take_changes(alloc, Change::Cut, pieces)?,
         "each_turn" => take_changes(alloc, Change::Turn, pieces)?,
-        "talk" => Line::Talk(take_run_with_peer(alloc, pieces)?),
-        "fail_talk" => Line::Talk(take_run_with_broken_peer(alloc, pieces)?),
-        "own" => Line::Own(take_disk_run(alloc, pieces)?),
-        "fail_own" => Line::Own(take_run_on_broken_disk(alloc, pieces)?),
         "crash_own" => Line::Own(take_run_before_crash(alloc, pieces)?),
-        "fail_files" => Line::Run(take_run_without_file(alloc, pieces)?),
-        "fail_output" => Line::Run(take_run_with_short_output(alloc, pieces)?),
         "words" => Line::Words(take_words(alloc, pieces)?),
+        _ => take_one_run(alloc, word, pieces)?,
+    })
+}
+
+/// A run, with a peer and a disk as its word says.
+pub fn take_one_run(alloc: Global, word: &str, pieces: &mut Pieces<'_>) -> Result<Line, NoAnswer> {
+    Ok(match word {
+        "run" => Line::Run(take_run(alloc, pieces)?),
+        "talk" => Line::Talk(take_run_with_peer(alloc, pieces)?),
+        "own" => Line::Own(take_disk_run(alloc, pieces)?),
         _ => return Err(NoAnswer::NoSuchLine),
     })
 }
@@ -119,16 +123,6 @@ fn take_run_with_peer(alloc: Global, pieces: &mut Pieces<'_>) -> Result<Attempt,
     Ok(attempt)
 }
 
-/// The same where the call of the network with a number, from 0 on, fails.
-fn take_run_with_broken_peer(alloc: Global, pieces: &mut Pieces<'_>) -> Result<Attempt, NoAnswer> {
-    let call = take_number(pieces)? as u64;
-    let mut attempt = take_run_with_peer(alloc, pieces)?;
-    if let Some(peer) = &mut attempt.peer {
-        peer.failures.push(Failure { call, after: 0 })?;
-    }
-    Ok(attempt)
-}
-
 /// A run with a peer and a disk that is a file.
 fn take_disk_run(alloc: Global, pieces: &mut Pieces<'_>) -> Result<DiskRun, NoAnswer> {
     Ok(DiskRun {
@@ -139,15 +133,6 @@ fn take_disk_run(alloc: Global, pieces: &mut Pieces<'_>) -> Result<DiskRun, NoAn
     })
 }
 
-/// The same where the call of the disk with a number fails, a write behind so many bytes.
-fn take_run_on_broken_disk(alloc: Global, pieces: &mut Pieces<'_>) -> Result<DiskRun, NoAnswer> {
-    let call = take_number(pieces)? as u64;
-    let after = take_number(pieces)?;
-    let mut run = take_disk_run(alloc, pieces)?;
-    run.failures.push(Failure { call, after })?;
-    Ok(run)
-}
-
 /// The same where a crash comes behind so many writes and syncs, and leaves given bytes in the
 /// place of those that it loses.
 fn take_run_before_crash(alloc: Global, pieces: &mut Pieces<'_>) -> Result<DiskRun, NoAnswer> {
@@ -156,20 +141,4 @@ fn take_run_before_crash(alloc: Global, pieces: &mut Pieces<'_>) -> Result<DiskR
     let mut run = take_disk_run(alloc, pieces)?;
     run.crash = Some(Crash { moment, lost });
     Ok(run)
-}
-
-/// A run that can't read the file that it takes with a number, the first one having 0.
-fn take_run_without_file(alloc: Global, pieces: &mut Pieces<'_>) -> Result<Attempt, NoAnswer> {
-    let call = take_number(pieces)? as u64;
-    let mut attempt = take_run(alloc, pieces)?;
-    attempt.take_failures.push(Failure { call, after: 0 })?;
-    Ok(attempt)
-}
-
-/// A run whose output breaks off behind so many bytes.
-fn take_run_with_short_output(alloc: Global, pieces: &mut Pieces<'_>) -> Result<Attempt, NoAnswer> {
-    let after = take_number(pieces)?;
-    let mut attempt = take_run(alloc, pieces)?;
-    attempt.put_failures.push(Failure { call: 0, after })?;
-    Ok(attempt)
 }

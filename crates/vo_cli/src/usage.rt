@@ -9,9 +9,9 @@ use vo_words::read_words;
 /// What standard error gets where the words are refused.
 pub const USAGE: &str = "\
 usage:
-    vo_cli keygen SEED [--height H]            writes the public key of a seed file
-    vo_cli seal SEED SQLFILE [--height H]      writes the journal of a script's batches
-    vo_cli own SEED ADDR SQLFILE [--height H]  commits a script's batches through a mirror
+    vo_cli keygen SEED [SHAPE]                 writes the public key of a seed file
+    vo_cli seal SEED SQLFILE [SHAPE]           writes the journal of a script's batches
+    vo_cli own SEED ADDR SQLFILE [SHAPE]       commits a script's batches through a mirror
     vo_cli answer PUB JOURNAL QUERY            writes the reply to a query
     vo_cli serve ADDR PUB JOURNAL COUNT        serves COUNT connections
     vo_cli check PUB QUERY REPLY [--least V]   checks a reply and writes its rows
@@ -19,7 +19,9 @@ usage:
     vo_cli audit PUB JOURNAL QUERY REPLY       writes what a reply is worth by the journal
     vo_cli meet PUB QUERY REPLY REPLY          writes what two replies are to each other
 SEED, SQLFILE, PUB, JOURNAL and REPLY are files, QUERY is a text, and ADDR is as 127.0.0.1:7878.
-COUNT is at least 1; H is 5, the default, or 10; V is the last version seen, or 0 by default.
+SHAPE is of the seed's key, and each time the same: [--height H] [--levels L], where H is 5, the
+default, or 10, and L is 1, the default, or 2.
+COUNT is at least 1, and V is the last version seen, or 0 by default.
 ";
 
 /// Whether the words of the command line ask for nothing.

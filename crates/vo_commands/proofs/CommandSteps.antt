@@ -5,6 +5,7 @@ use Rattle.std.specs.Prelude.{IfSome}
 use Rattle.outside.specs.Shelf.{Files}
 use Rattle.vo_spec.specs.Conditions.{Query}
 use Rattle.sql_text.specs.Scripts.{IsScript}
+use Rattle.vo_words.specs.Shapes.{PlainShape}
 use Rattle.vo_commands.specs.declared.report.Report.{Report}
 use Rattle.vo_commands.specs.declared.report.Stop.{Stop}
 use Rattle.vo_commands.specs.declared.report.Stop.TheVariants.{Refused, Outside, Memory}
@@ -117,15 +118,15 @@ script_stops view secret bytes text stop goes reads =
 pub text_stops : {A : Type 0} (view : A → List ℕ) (secret : Secret) (bytes : List ℕ) (stop : Stop) → GoesOn view (λ rest. with_text rest bytes) (Err stop) → Answers (script_expected secret bytes) (Err stop)
 text_stops view secret bytes stop goes = of_stop view (λ rest. with_text rest bytes) stop (λ t. OfScript t (λ b. Exactly (seal_output secret b))) goes
 
-abbrev SeedIs : List ℕ → ℕ → Secret → Files → Type 0
-SeedIs name height secret known = (rest : Secret → Expected) → with_seed known name height rest ≡ rest secret
+abbrev SeedIs : List ℕ → PlainShape → Secret → Files → Type 0
+SeedIs name shape secret known = (rest : Secret → Expected) → with_seed known name shape rest ≡ rest secret
 
-pub seal_known : (name script : List ℕ) (height : ℕ) (secret : Secret) (bytes : List ℕ) (o p : Option Files) (r : Result Report Stop) → p ≡ o → IfSome o (SeedIs name height secret)
-    → IfSome p (FileIs script script_limit bytes) → Answers (script_expected secret bytes) r → IfSome o (λ known. Answers (seal_expected name script height known) r)
-seal_known name script height secret bytes o p r same k f a = step o k (subst (λ z. IfSome z (FileIs script script_limit bytes)) same f)
+pub seal_known : (name script : List ℕ) (shape : PlainShape) (secret : Secret) (bytes : List ℕ) (o p : Option Files) (r : Result Report Stop) → p ≡ o → IfSome o (SeedIs name shape secret)
+    → IfSome p (FileIs script script_limit bytes) → Answers (script_expected secret bytes) r → IfSome o (λ known. Answers (seal_expected name script shape known) r)
+seal_known name script shape secret bytes o p r same k f a = step o k (subst (λ z. IfSome z (FileIs script script_limit bytes)) same f)
   where
-    step : (o : Option Files) → IfSome o (SeedIs name height secret) → IfSome o (FileIs script script_limit bytes) → IfSome o (λ known. Answers (seal_expected name script height known) r)
+    step : (o : Option Files) → IfSome o (SeedIs name shape secret) → IfSome o (FileIs script script_limit bytes) → IfSome o (λ known. Answers (seal_expected name script shape known) r)
     step None k f = tt
     step (Some known) k f =
-        of_file (with_seed known name height) secret (λ s. with_file known script script_limit (script_expected s)) r k
+        of_file (with_seed known name shape) secret (λ s. with_file known script script_limit (script_expected s)) r k
         (of_file (with_file known script script_limit) bytes (script_expected secret) r f a)

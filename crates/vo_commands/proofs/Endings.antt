@@ -55,9 +55,9 @@ serve_ends_empty (Some expected) outside_rose out_rose faults wire before = inl 
 pub asks_nothing : (request : Option PlainRequest) (files : Option Files) (before : ConnectionModel) (wire : Option ConnectionModel) → wire ≡ Some before
     → UsesNet request files before wire
 asks_nothing None files before wire is = is
-asks_nothing (Some (Keygen seed height)) files before wire is = is
-asks_nothing (Some (Seal seed script height)) files before wire is = is
-asks_nothing (Some (Own seed address script height)) files before wire is = tt
+asks_nothing (Some (Keygen seed shape)) files before wire is = is
+asks_nothing (Some (Seal seed script shape)) files before wire is = is
+asks_nothing (Some (Own seed address script shape)) files before wire is = tt
 asks_nothing (Some (Answer key journal query)) files before wire is = is
 asks_nothing (Some (Serve address key journal count)) files before wire is = tt
 asks_nothing (Some (Check key query reply least)) files before wire is = is

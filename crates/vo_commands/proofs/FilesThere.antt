@@ -9,9 +9,11 @@ use Rattle.vo_spec.specs.Secret.{Secret, public_of_secret}
 use Rattle.owner_state.specs.declared.sealing.SealFault.{SealFault}
 use Rattle.owner_state.specs.declared.sealing.SealFault.TheVariants as seal
 use Rattle.owner_state.specs.Sealing.{commands_of, seal_fault}
+use Rattle.vo_words.specs.Shapes.{PlainShape}
 use Rattle.vo_words.specs.PlainRequest.{PlainRequest, Keygen, Seal, Own, Answer, Serve, Check, Ask, Audit, Meet}
+use Rattle.vo_spec.specs.Keys.{is_public_key}
 use Rattle.vo_commands.specs.Lines.{input_refusal, success}
-use Rattle.vo_commands.specs.Expected.{Expected, Anything, Exactly, OfQuery, OfScript, HoldsEach, file_words, files_of_request, files_expected, is_public_key, reply_limit, sealed_output, script_expected, script_limit, seal_output, seed_limit, secret_in, with_contents, with_file, with_public, with_secret, words_expected, words_refusal}
+use Rattle.vo_commands.specs.Expected.{Expected, Anything, Exactly, OfQuery, OfScript, HoldsEach, file_words, files_of_request, files_expected, reply_limit, sealed_output, script_expected, script_limit, seal_output, seed_limit, secret_in, with_contents, with_file, with_public, with_secret, words_expected, words_refusal}
 use Rattle.vo_commands.specs.Taking.{LacksFile}
 
 -- it isn't what is written of a fault of the outside
@@ -40,9 +42,9 @@ there (Some bytes) name limit rest some none lacks =
 public : (rest : List ℕ → Expected) → ((key : List ℕ) → LacksFile (rest key) → ⊥) → (bytes : List ℕ) → LacksFile (with_public rest bytes) → ⊥
 public rest none bytes lacks = tested (is_public_key bytes) (codes "key file" ∷ []) (rest bytes) (none bytes) lacks
 
-secret : (height : ℕ) (rest : Secret → Expected) → ((key : Secret) → LacksFile (rest key) → ⊥) → (bytes : List ℕ) → LacksFile (with_secret height rest bytes) → ⊥
-secret height rest none bytes lacks =
-    tested (length bytes == seed_limit) (codes "seed file" ∷ decimal (length bytes) ∷ []) (rest (secret_in bytes height)) (none (secret_in bytes height)) lacks
+secret : (shape : PlainShape) (rest : Secret → Expected) → ((key : Secret) → LacksFile (rest key) → ⊥) → (bytes : List ℕ) → LacksFile (with_secret shape rest bytes) → ⊥
+secret shape rest none bytes lacks =
+    tested (length bytes == seed_limit) (codes "seed file" ∷ decimal (length bytes) ∷ []) (rest (secret_in bytes shape)) (none (secret_in bytes shape)) lacks
 
 sealed : (o : Option SealFault) (journal : List ℕ) → sealed_output o journal ≡ outside_failure → ⊥
 sealed None journal e = other_status (sealed_output None journal) (λ s. absurd (omega (arith, s))) e
@@ -58,11 +60,11 @@ script key bytes lacks = step (is_utf8 bytes) lacks
     step false lacks = refused (codes "not text" ∷ []) lacks
 
 request_lacks_none : (request : PlainRequest) (known : Files) → HoldsEach known (files_of_request request) → LacksFile (files_expected request known) → ⊥
-request_lacks_none (Keygen seed height) known all = there _ _ _ _ all.0 (secret height (λ key. Exactly (success (public_of_secret key))) (λ key lacks. other_status (success (public_of_secret key)) (λ s. absurd (omega (arith, s))) lacks))
-request_lacks_none (Seal seed text height) known all =
-    there _ _ _ _ all.0 (secret height (λ key. with_file known text script_limit (script_expected key)) (λ key. there _ text script_limit (script_expected key) all.1.0 (script key)))
-request_lacks_none (Own seed address text height) known all =
-    there _ _ _ _ all.0 (secret height (λ _. with_file known text script_limit (λ _. Anything)) (λ key. there _ text script_limit (λ _. Anything) all.1.0 (λ bytes lacks. lacks)))
+request_lacks_none (Keygen seed shape) known all = there _ _ _ _ all.0 (secret shape (λ key. Exactly (success (public_of_secret key))) (λ key lacks. other_status (success (public_of_secret key)) (λ s. absurd (omega (arith, s))) lacks))
+request_lacks_none (Seal seed text shape) known all =
+    there _ _ _ _ all.0 (secret shape (λ key. with_file known text script_limit (script_expected key)) (λ key. there _ text script_limit (script_expected key) all.1.0 (script key)))
+request_lacks_none (Own seed address text shape) known all =
+    there _ _ _ _ all.0 (secret shape (λ _. with_file known text script_limit (λ _. Anything)) (λ key. there _ text script_limit (λ _. Anything) all.1.0 (λ bytes lacks. lacks)))
 request_lacks_none (Answer key journal query) known all = there _ _ _ _ all.0 (public _ (λ k. there _ _ _ _ all.1.0 (λ bytes lacks. lacks.2)))
 request_lacks_none (Serve address key journal count) known all = there _ _ _ _ all.0 (public _ (λ k. there _ _ _ _ all.1.0 (λ bytes lacks. lacks)))
 request_lacks_none (Check key query reply least) known all = there _ _ _ _ all.0 (public _ (λ k lacks. there _ _ _ _ all.1.0 (λ bytes lacks. lacks) lacks.2))

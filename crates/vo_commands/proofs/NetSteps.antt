@@ -15,11 +15,12 @@ use Rattle.connections.specs.declared.wire_fault.WireFault.TheVariants as fault
 use Rattle.connections.specs.Requesting.{body_of, answer_in}
 use Rattle.connections.specs.Fetching.{Fetches}
 use Rattle.vo_check.specs.Checkings.{CheckingModel, with_piece}
+use Rattle.vo_spec.specs.Keys.{is_public_key}
 use Rattle.vo_commands.specs.declared.report.Report.{Report}
 use Rattle.vo_commands.specs.declared.report.Stop.{Stop}
 use Rattle.vo_commands.specs.declared.report.Stop.TheVariants.{Refused, Outside, Memory}
 use Rattle.vo_commands.specs.Lines.{store_refusal, bad_frame, cut_off, input_refusal}
-use Rattle.vo_commands.specs.Expected.{Anything, AsksOnly, AsksWhere, Exactly, Expected, IsKeyFile, is_public_key, key_limit, queue_of, with_answer, with_body, with_connection, with_contents, with_key, with_public, with_reply}
+use Rattle.vo_commands.specs.Expected.{Anything, AsksOnly, AsksWhere, Exactly, Expected, IsKeyFile, key_limit, queue_of, with_answer, with_body, with_connection, with_contents, with_key, with_public, with_reply}
 use Rattle.vo_commands.specs.Reports.{Answers, GoesOn, StopsWithout, output_of}
 
 body_goes : (k : FrameKind) (body bytes : List ℕ) → body_of k body ≡ Ok bytes → (rest : List ℕ → Expected) → with_body k body rest ≡ rest bytes

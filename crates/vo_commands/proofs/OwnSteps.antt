@@ -23,6 +23,7 @@ use Rattle.owner_session.specs.Runs.{Snapshot, input_of, snapshot_of}
 use Rattle.owner_session.specs.Sessions.{SessionEnds, SessionIsDone, SessionRuns}
 use Rattle.owner_session.specs.Work.{Deed, Work, session}
 use Rattle.sql_text.specs.Scripts.{IsScript}
+use Rattle.vo_words.specs.Shapes.{PlainShape}
 use Rattle.vo_commands.specs.declared.report.Report.{Report}
 use Rattle.vo_commands.specs.declared.report.Stop.{Stop}
 use Rattle.vo_commands.specs.declared.report.Stop.TheVariants.{Refused, Outside, Memory}
@@ -370,22 +371,22 @@ module _ (NetRose DiskRose OutRose : Type 0) (status : ℕ) (drive later_drive :
       let expected = with_file known script script_limit (commitment_in secret) in
       ends_stopped FilesRose expected stop same still (λ report is. subst (λ (s : Stop). Prepares expected secret (Err s)) is (prepares secret)) rose wrote
 
-  pub run_without_key : {A : Type 0} (view : A → Secret) (FilesRose : Type 0) (seed script : List ℕ) (height : ℕ) (stop : Stop) (o : Option Files)
-      → IfSome o (λ known. GoesOn view (with_seed known seed height) (Err stop)) → later_drive ≡ drive → later_wire ≡ wire
+  pub run_without_key : {A : Type 0} (view : A → Secret) (FilesRose : Type 0) (seed script : List ℕ) (shape : PlainShape) (stop : Stop) (o : Option Files)
+      → IfSome o (λ known. GoesOn view (with_seed known seed shape) (Err stop)) → later_drive ≡ drive → later_wire ≡ wire
       → (stop ≡ Outside → FilesRose)
-      → WritesOutcome (Err stop) OutRose status written later_written → IfSome o (λ known. Ended (commitment_expected seed script height known) FilesRose)
-  run_without_key view FilesRose seed script height stop None goes same still rose wrote = tt
-  run_without_key {A = A} view FilesRose seed script height stop (Some known) goes same still rose wrote =
-      ends_stopped FilesRose (commitment_expected seed script height known) stop same still
+      → WritesOutcome (Err stop) OutRose status written later_written → IfSome o (λ known. Ended (commitment_expected seed script shape known) FilesRose)
+  run_without_key view FilesRose seed script shape stop None goes same still rose wrote = tt
+  run_without_key {A = A} view FilesRose seed script shape stop (Some known) goes same still rose wrote =
+      ends_stopped FilesRose (commitment_expected seed script shape known) stop same still
       (λ report is. subst (λ (x : Expected). Allows x (output_of report))
-      (sym (subst (λ (s : Stop). GoesOn {A = A} view (with_seed known seed height) (Err s)) is goes
+      (sym (subst (λ (s : Stop). GoesOn {A = A} view (with_seed known seed shape) (Err s)) is goes
       (λ secret. with_file known script script_limit (commitment_in secret)))) refl) rose wrote
 
-  pub run_with_key : (Before FilesRose : Type 0) (seed script : List ℕ) (height : ℕ) (secret : Secret) (o p : Option Files) → p ≡ o → (Before → FilesRose)
-      → IfSome o (λ known. (rest : Secret → Expected) → with_seed known seed height rest ≡ rest secret)
+  pub run_with_key : (Before FilesRose : Type 0) (seed script : List ℕ) (shape : PlainShape) (secret : Secret) (o p : Option Files) → p ≡ o → (Before → FilesRose)
+      → IfSome o (λ known. (rest : Secret → Expected) → with_seed known seed shape rest ≡ rest secret)
       → IfSome p (λ known. Ended (with_file known script script_limit (commitment_in secret)) Before)
-      → IfSome o (λ known. Ended (commitment_expected seed script height known) FilesRose)
-  run_with_key Before FilesRose seed script height secret o p same rises goes ended =
+      → IfSome o (λ known. Ended (commitment_expected seed script shape known) FilesRose)
+  run_with_key Before FilesRose seed script shape secret o p same rises goes ended =
       step o goes (subst (λ z. IfSome z (λ known. Ended (with_file known script script_limit (commitment_in secret)) Before)) same ended)
     where
       later : (expected : Expected) → Ended expected Before → Ended expected FilesRose
@@ -394,9 +395,9 @@ module _ (NetRose DiskRose OutRose : Type 0) (status : ℕ) (drive later_drive :
       later expected (inl (inr (inr (rose, wrote)), same, still)) = inl (inr (inr (rises rose, wrote)), same, still)
       later expected (inr commits) = inr commits
 
-      step : (o : Option Files) → IfSome o (λ known. (rest : Secret → Expected) → with_seed known seed height rest ≡ rest secret)
+      step : (o : Option Files) → IfSome o (λ known. (rest : Secret → Expected) → with_seed known seed shape rest ≡ rest secret)
           → IfSome o (λ known. Ended (with_file known script script_limit (commitment_in secret)) Before)
-          → IfSome o (λ known. Ended (commitment_expected seed script height known) FilesRose)
+          → IfSome o (λ known. Ended (commitment_expected seed script shape known) FilesRose)
       step None goes ended = tt
       step (Some known) goes ended =
           subst (λ (x : Expected). Ended x FilesRose) (sym (goes (λ secret. with_file known script script_limit (commitment_in secret))))

@@ -1,5 +1,5 @@
 -- The owner of a key behind its journal.
-use Rattle.std.proofs.Common.{◌≡◌, ℕ, zero, suc, ◌+◌, List, [], ◌∷◌, ◌++◌, Option, Some, None, Ok, Err, length, slice_get, sym, ap, ◌∙◌, subst, arith}
+use Rattle.std.proofs.Common.{◌≡◌, ℕ, zero, suc, ◌+◌, ◌^◌, ◌<◌, lit<, List, [], ◌∷◌, ◌++◌, Option, Some, None, Ok, Err, length, slice_get, sym, ap, ◌∙◌, subst, arith}
 use mathlib.Core.Logic.{inl, inr}
 use Rattle.std.proofs.lemmas.List.{length-append}
 use Rattle.std.specs.Prelude.{◌⊎◌, IfSome}
@@ -83,10 +83,17 @@ versions_more es e are is v f found = more_from 0 es e (λ w g at. are w g at �
 
 pub follows_given : (held : Held) (step : Step) (commands : List Command) (proofs : List ℕ) → (Ok step ≡ Err (owner.Memory) ⊎ StepOf held.key held.roots commands proofs (Ok step))
     → IsNextEntry (public_of_secret held.key) held.roots step.entry step.roots → FitsEntry step.entry → FitsCatalog step.roots.catalog
-    → Follows held step
-follows_given held step commands proofs (inl never) next entry catalog = absurd (cc)
-follows_given held step commands proofs (inr is) next entry catalog =
-    record { left = (step_parts held.key held.roots commands proofs step is).left; next = next; entry = entry; catalog = catalog }
+    → step.roots.version < 1048576 → Follows held step
+follows_given held step commands proofs (inl never) next entry catalog few = absurd (cc)
+follows_given held step commands proofs (inr is) next entry catalog few =
+    record { left = (step_parts held.key held.roots commands proofs step is).left; next = next; entry = entry; catalog = catalog; few = few }
+
+-- a journal to which a step's entry comes has few entries
+pub few_entries : (held : Held) (step : Step) (es : List Entry) → Follows held step → length es ≡ held.roots.version + 1 → length es < 2 ^ 32
+few_entries held step es follows count =
+    let next = next_version held.roots step.entry.batch.commands step.entry.proofs step.roots follows.next.next in
+    let wide : 1048576 < 2 ^ 32 = lit< tt in
+    omega (arith, next, count, follows.few, wide)
 
 pub versions_appended : (held : Held) (step : Step) (es later : List Entry) → Follows held step → AreOfVersions es → length es ≡ held.roots.version + 1
     → later ≡ es ++ step.entry ∷ [] → AreOfVersions later

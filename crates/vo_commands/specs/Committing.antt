@@ -7,9 +7,8 @@ use Rattle.vo_spec.specs.declared.records.Record.{Record}
 use Rattle.vo_spec.specs.declared.records.Entry.{Entry}
 use Rattle.vo_spec.specs.Batches.{batch_bytes}
 use Rattle.vo_spec.specs.Journals.{FitsEntry}
-use Rattle.vo_spec.specs.LmsSets.{leaves_of}
 use Rattle.vo_spec.specs.Records.{FitsCatalog}
-use Rattle.vo_spec.specs.Secret.{public_of_secret}
+use Rattle.vo_spec.specs.Secret.{public_of_secret, secret_leaves}
 use Rattle.owner_roots.specs.declared.owner_fault.OwnerFault.{OwnerFault}
 use Rattle.owner_roots.specs.declared.owner_fault.OwnerFault.TheVariants as fault
 use Rattle.owner_roots.specs.Owners.{IsNextEntry}
@@ -91,10 +90,11 @@ RefusesBy why Memory = Unit {0}
 
 -- the step is one of an owner that stands so
 pub record Follows (held : Held) (step : Step) : Type 0 where
-  pub left : held.roots.version + 1 < leaves_of held.key.lms
+  pub left : held.roots.version + 1 < secret_leaves held.key
   pub next : IsNextEntry (public_of_secret held.key) held.roots step.entry step.roots
   pub entry : FitsEntry step.entry
   pub catalog : FitsCatalog step.roots.catalog
+  pub few : step.roots.version < 1048576
 
 -- no append has failed, and each entry can be put in frames
 pub record CanGoOn (journal : Journal) : Type 0 where

@@ -1,5 +1,5 @@
 -- What a run of the program must print, by its words and by the files that it takes.
-use Rattle.std.specs.Prelude.{◌≡◌, ◌⊎◌, ℕ, Bool, true, false, ◌&&◌, ◌==◌, nat_lt, if◌then◌else◌, List, [], ◌∷◌, length, take, drop, codes, decimal, Option, Some, None, option_map, is_some, IsSome, IfSome, IsTrue, slice_index, Result}
+use Rattle.std.specs.Prelude.{◌≡◌, ◌⊎◌, ℕ, Bool, true, false, ◌&&◌, ◌==◌, nat_lt, if◌then◌else◌, List, [], ◌∷◌, length, take, drop, codes, decimal, Option, Some, None, option_map, IsSome, IfSome, IsTrue, slice_index, Result}
 use Rattle.std.specs.Option.{option_map_or}
 use Rattle.std.specs.Str.{is_utf8}
 use Rattle.outside.specs.Shelf.{Files}
@@ -17,9 +17,10 @@ use Rattle.vo_spec.specs.declared.checks.Answer.{Answer as Accepted}
 use Rattle.vo_spec.specs.declared.checks.CheckFault.{CheckFault}
 use Rattle.vo_spec.specs.declared.checks.Verdict.{Verdict}
 use Rattle.vo_spec.specs.declared.checks.AuditFault.{AuditFault}
-use Rattle.vo_spec.specs.LmsSets.{leaves_of}
-use Rattle.vo_spec.specs.Lms.{key_lms, key_ots}
-use Rattle.vo_spec.specs.Secret.{Secret, secret_of, public_of_secret, lms_of_height}
+use Rattle.vo_spec.specs.declared.signatures.Levels.{Levels}
+use Rattle.vo_spec.specs.declared.signatures.Levels.TheVariants.{One, Two}
+use Rattle.vo_spec.specs.Keys.{is_public_key}
+use Rattle.vo_spec.specs.Secret.{Secret, secret_of, public_of_secret, lms_of_height, secret_leaves}
 use Rattle.vo_spec.specs.Conditions.{Query}
 use Rattle.vo_spec.specs.Journals.{IsJournal, journal_bytes}
 use Rattle.vo_spec.specs.Replies.{Reply, reply_bytes, max_reply}
@@ -33,6 +34,7 @@ use Rattle.reply_meeting.specs.Meetings.{RepliesMeet}
 use Rattle.owner_state.specs.declared.sealing.SealFault.{SealFault}
 use Rattle.owner_state.specs.declared.sealing.SealFault.TheVariants as seal
 use Rattle.owner_state.specs.Sealing.{commands_of, seal_fault}
+use Rattle.vo_words.specs.Shapes.{PlainShape}
 use Rattle.vo_words.specs.PlainRequest.{PlainRequest, Keygen, Seal, Own, Answer, Serve, Check, Ask, Audit, Meet}
 use Rattle.sql_text.specs.Scripts.{IsScript}
 use Rattle.vo_commands.specs.Lines.{success, refusal, input_refusal, check_output, audit_output, meet_output, bad_journal, command_output, spent_key, store_refusal, bad_frame, cut_off}
@@ -112,28 +114,33 @@ with_file files name limit rest = with_contents (files name) name limit rest
 abbrev pub seed_limit : ℕ
 seed_limit = 48
 
-abbrev pub secret_in : List ℕ → ℕ → Secret
-secret_in bytes height =
-    secret_of (take 16 bytes) (take 32 (drop 16 bytes)) W8 (lms_of_height height)
+-- how many levels keys are made with: 1 or 2
+abbrev pub levels_of_number : ℕ → Levels
+levels_of_number n = if n == 2 then Two else One
 
-abbrev pub with_secret : ℕ → (Secret → Expected) → List ℕ → Expected
-with_secret height rest bytes =
-    if length bytes == seed_limit then rest (secret_in bytes height)
+-- the key of an identifier and a seed
+abbrev pub secret_by : PlainShape → List ℕ → List ℕ → Secret
+secret_by shape id seed =
+    secret_of (levels_of_number shape.levels) id seed W8 (lms_of_height shape.height)
+
+abbrev pub secret_in : List ℕ → PlainShape → Secret
+secret_in bytes shape = secret_by shape (take 16 bytes) (take 32 (drop 16 bytes))
+
+abbrev pub with_secret : PlainShape → (Secret → Expected) → List ℕ → Expected
+with_secret shape rest bytes =
+    if length bytes == seed_limit then rest (secret_in bytes shape)
     else Exactly (input_refusal (codes "seed file" ∷ decimal (length bytes) ∷ []))
 
-abbrev pub with_seed : Files → List ℕ → ℕ → (Secret → Expected) → Expected
-with_seed files seed height rest = with_file files seed seed_limit (with_secret height rest)
+abbrev pub with_seed : Files → List ℕ → PlainShape → (Secret → Expected) → Expected
+with_seed files seed shape rest = with_file files seed seed_limit (with_secret shape rest)
 
-abbrev pub keygen_expected : List ℕ → ℕ → Files → Expected
-keygen_expected seed height files =
-    with_seed files seed height (λ secret. Exactly (success (public_of_secret secret)))
+abbrev pub keygen_expected : List ℕ → PlainShape → Files → Expected
+keygen_expected seed shape files =
+    with_seed files seed shape (λ secret. Exactly (success (public_of_secret secret)))
 
--- a key file: the 56 bytes of a public key of known sets
+-- a key file: the 56 bytes of a public key of one level, or the 60 of one of two
 abbrev pub key_limit : ℕ
 key_limit = 64
-
-abbrev pub is_public_key : List ℕ → Bool
-is_public_key bytes = length bytes == 56 && is_some (key_lms bytes) && is_some (key_ots bytes)
 
 abbrev pub with_public : (List ℕ → Expected) → List ℕ → Expected
 with_public rest bytes =
@@ -166,7 +173,7 @@ sealed_output (Some seal.Memory) journal = refusal 8 []
 
 abbrev pub seal_output : Secret → List Batch → Output
 seal_output secret batches =
-    sealed_output (seal_fault (leaves_of secret.lms) ([] ∷ []) (commands_of batches))
+    sealed_output (seal_fault (secret_leaves secret) ([] ∷ []) (commands_of batches))
     (journal_bytes (seal_batches secret (commands_of batches)))
 
 -- of a script's bytes
@@ -201,9 +208,9 @@ with_reply queue rest =
 -- What each command comes to, the files in the order of its words, a query at its place and the
 -- network behind them.
 
-abbrev pub seal_expected : List ℕ → List ℕ → ℕ → Files → Expected
-seal_expected seed script height files =
-    with_seed files seed height (λ secret. with_file files script script_limit
+abbrev pub seal_expected : List ℕ → List ℕ → PlainShape → Files → Expected
+seal_expected seed script shape files =
+    with_seed files seed shape (λ secret. with_file files script script_limit
     (script_expected secret))
 
 abbrev pub answer_expected : List ℕ → List ℕ → List ℕ → Files → Expected
@@ -234,10 +241,10 @@ meet_expected key query first second files =
 -- work
 abbrev pub command_expected : PlainRequest → Option Files → Option (List (List ℕ))
     → Option Expected
-command_expected (Keygen seed height) files queue = option_map (keygen_expected seed height) files
-command_expected (Seal seed script height) files queue =
-    option_map (seal_expected seed script height) files
-command_expected (Own seed address script height) files queue = None
+command_expected (Keygen seed shape) files queue = option_map (keygen_expected seed shape) files
+command_expected (Seal seed script shape) files queue =
+    option_map (seal_expected seed script shape) files
+command_expected (Own seed address script shape) files queue = None
 command_expected (Answer key journal query) files queue =
     option_map (answer_expected key journal query) files
 command_expected (Serve address key journal count) files queue = None
@@ -285,7 +292,7 @@ HasQuery text = (q : Query) × IsQueryText text q
 -- the key is one, or does nothing
 abbrev pub UsesNet : Option PlainRequest → Option Files → ConnectionModel → Option ConnectionModel
     → Type 0
-UsesNet (Some (Own seed address script height)) files before after = Unit {0}
+UsesNet (Some (Own seed address script shape)) files before after = Unit {0}
 UsesNet (Some (Serve address key journal count)) files before after = Unit {0}
 UsesNet (Some (Ask address key query least)) files before after =
     AsksWhere (IsKeyFile key files × HasQuery query) (frame_bytes QueryFrame query) before after
@@ -293,14 +300,14 @@ UsesNet _ files before after = after ≡ Some before
 
 -- a command that makes or takes connections
 abbrev pub uses_net : Option PlainRequest → Bool
-uses_net (Some (Own seed address script height)) = true
+uses_net (Some (Own seed address script shape)) = true
 uses_net (Some (Serve address key journal count)) = true
 uses_net (Some (Ask address key query least)) = true
 uses_net _ = false
 
 -- a command that writes as it works
 abbrev pub writes_as_it_works : Option PlainRequest → Bool
-writes_as_it_works (Some (Own seed address script height)) = true
+writes_as_it_works (Some (Own seed address script shape)) = true
 writes_as_it_works (Some (Serve address key journal count)) = true
 writes_as_it_works _ = false
 
@@ -311,12 +318,12 @@ is_service _ = false
 
 -- a command that appends to the owner's journal
 abbrev pub uses_disk : Option PlainRequest → Bool
-uses_disk (Some (Own seed address script height)) = true
+uses_disk (Some (Own seed address script shape)) = true
 uses_disk _ = false
 
 -- how many connections at most
 abbrev pub connections_of : Option PlainRequest → ℕ
-connections_of (Some (Own seed address script height)) = 1
+connections_of (Some (Own seed address script shape)) = 1
 connections_of (Some (Serve address key journal count)) = count
 connections_of (Some (Ask address key query least)) = 1
 connections_of _ = 0
@@ -330,9 +337,9 @@ Ends expected outside_rose out_rose status before after =
 
 -- the files that the words name
 abbrev pub files_of_request : PlainRequest → List (List ℕ)
-files_of_request (Keygen seed height) = seed ∷ []
-files_of_request (Seal seed script height) = seed ∷ script ∷ []
-files_of_request (Own seed address script height) = seed ∷ script ∷ []
+files_of_request (Keygen seed shape) = seed ∷ []
+files_of_request (Seal seed script shape) = seed ∷ script ∷ []
+files_of_request (Own seed address script shape) = seed ∷ script ∷ []
 files_of_request (Answer key journal query) = key ∷ journal ∷ []
 files_of_request (Serve address key journal count) = key ∷ journal ∷ []
 files_of_request (Check key query reply least) = key ∷ reply ∷ []
@@ -342,10 +349,10 @@ files_of_request (Meet key query first second) = key ∷ first ∷ second ∷ []
 
 -- what their files come to, whatever the network and the disk do
 abbrev pub files_expected : PlainRequest → Files → Expected
-files_expected (Keygen seed height) files = keygen_expected seed height files
-files_expected (Seal seed script height) files = seal_expected seed script height files
-files_expected (Own seed address script height) files =
-    with_seed files seed height (λ _. with_file files script script_limit (λ _. Anything))
+files_expected (Keygen seed shape) files = keygen_expected seed shape files
+files_expected (Seal seed script shape) files = seal_expected seed script shape files
+files_expected (Own seed address script shape) files =
+    with_seed files seed shape (λ _. with_file files script script_limit (λ _. Anything))
 files_expected (Answer key journal query) files = answer_expected key journal query files
 files_expected (Serve address key journal count) files =
     with_key files key (λ _. with_file files journal journal_limit (λ _. Anything))

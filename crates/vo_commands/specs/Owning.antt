@@ -20,6 +20,7 @@ use Rattle.owner_session.specs.Requests.{PutsRequests}
 use Rattle.owner_session.specs.Runs.{snapshot_of}
 use Rattle.owner_session.specs.Sessions.{SessionRuns, SessionIsDone}
 use Rattle.sql_text.specs.Scripts.{IsScript}
+use Rattle.vo_words.specs.Shapes.{PlainShape}
 use Rattle.vo_words.specs.PlainRequest.{PlainRequest, Own}
 use Rattle.vo_commands.specs.declared.report.Report.{Report}
 use Rattle.vo_commands.specs.declared.report.Stop.{Stop}
@@ -35,13 +36,13 @@ use Rattle.vo_commands.specs.Committing.{IsJudgement, LeavesWith, entry_forms}
 abbrev pub commitment_in : Secret → List ℕ → Expected
 commitment_in secret = with_text (λ text. OfScript text (λ batches. Owns secret batches))
 
-abbrev pub commitment_expected : List ℕ → List ℕ → ℕ → Files → Expected
-commitment_expected seed script height files = with_seed files seed height
+abbrev pub commitment_expected : List ℕ → List ℕ → PlainShape → Files → Expected
+commitment_expected seed script shape files = with_seed files seed shape
     (λ secret. with_file files script script_limit (commitment_in secret))
 
 abbrev pub own_expected : Option PlainRequest → Option Files → Option Expected
-own_expected (Some (Own seed address script height)) files =
-    option_map (commitment_expected seed script height) files
+own_expected (Some (Own seed address script shape)) files =
+    option_map (commitment_expected seed script shape) files
 own_expected _ files = None
 
 -- an owner of this key is expected, who commits these batches

@@ -1,7 +1,7 @@
 //! Taking the files that a command names, in the order of its words.
-ghost use Rattle.std.specs.Prelude.{◌≡◌, ◌==◌, length, take, drop, is_some, IfSome};
-ghost use Rattle.vo_words.specs.Height.{number_of};
-ghost use Rattle.vo_commands.specs.Expected.{with_file, with_seed, with_secret, seed_limit, with_key, with_public};
+ghost use Rattle.std.specs.Prelude.{◌≡◌, ◌==◌, length, take, drop, is_some, IfOk, IfSome};
+ghost use Rattle.vo_words.specs.Shapes.{plain_shape};
+ghost use Rattle.vo_commands.specs.Expected.{with_file, with_seed, with_secret, secret_by, seed_limit, with_key, with_public};
 ghost use Rattle.vo_commands.specs.Reports.{GoesOn, StaysInside};
 ghost use Rattle.vo_commands.specs.Taking.{TakesFiles, One};
 
@@ -11,8 +11,8 @@ use crate::refusals::refusal;
 use crate::report::{Status, Stop};
 use lms_sign::{OtsType, PublicKey, SecretKey};
 use outside::{Shelf, TakeFault};
-use std::alloc::Global;
-use vo_words::Height;
+use std::alloc::{AllocError, Global};
+use vo_words::{KeyShape, Levels};
 
 /// A file by its name; one over its limit is refused.
 pub fn take_file<F: Shelf>(
@@ -42,27 +42,43 @@ pub fn take_seed<F: Shelf>(
     alloc: Global,
     files: &mut F,
     name: &str,
-    height: Height,
+    shape: KeyShape,
 ) -> Result<SecretKey, Stop>
     ensures known { IfSome (F.contents files.old)
-        (λ known. GoesOn (λ key. key) (with_seed known name.now (number_of height)) result) }
+        (λ known. GoesOn (λ key. key) (with_seed known name.now (plain_shape shape)) result) }
     ensures files { TakesFiles F.contents F.faults F.misses (One name.now) files.old files.new
         result }
 {
     let bytes = take_file(alloc, files, name, SEED_LIMIT)?;
-    secret_key(alloc, &bytes, height)
+    secret_key(alloc, &bytes, shape)
 }
 
-fn secret_key(alloc: Global, bytes: &[u8], height: Height) -> Result<SecretKey, Stop>
+fn secret_key(alloc: Global, bytes: &[u8], shape: KeyShape) -> Result<SecretKey, Stop>
     ensures known { GoesOn (λ key. key)
-        (λ rest. with_secret (number_of height) rest bytes.now) result }
+        (λ rest. with_secret (plain_shape shape) rest bytes.now) result }
     ensures inside { StaysInside result }
 {
     let Some((id, seed)) = parts_of(bytes) else {
         let words = [Word::Phrase("seed file"), Word::Number(bytes.len() as u64)];
         return Err(Stop::Refused(refusal(alloc, Status::RefusedInput, &words)?));
     };
-    Ok(SecretKey::make(alloc, *id, *seed, OtsType::W8, height.number())?)
+    Ok(key_of(alloc, *id, *seed, shape)?)
+}
+
+/// The key of an identifier and a seed.
+fn key_of(
+    alloc: Global,
+    id: [u8; 16],
+    seed: [u8; 32],
+    shape: KeyShape,
+) -> Result<SecretKey, AllocError>
+    ensures { IfOk result (λ key. key ≡ secret_by (plain_shape shape) id seed) }
+{
+    let height = shape.height.number();
+    match shape.levels {
+        Levels::One => SecretKey::make(alloc, id, seed, OtsType::W8, height),
+        Levels::Two => SecretKey::make_hss(alloc, id, seed, OtsType::W8, height),
+    }
 }
 
 /// The identifier and the seed, where there are 48 bytes.

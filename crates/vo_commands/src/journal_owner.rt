@@ -113,6 +113,8 @@ impl<D: Disk, K: Loan> SessionOwner for JournalOwner<'_, D, K> {
         match self.lent.append(alloc, &mut self.journal, &step.entry) {
             Ok(()) => {
                 self.owner.advance(step);
+                // A tree for which there is no memory now is made as it is signed in.
+                let _ = self.owner.prepare(alloc);
                 Ok(())
             }
             Err(fault) => {

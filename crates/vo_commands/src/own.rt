@@ -8,7 +8,7 @@ ghost use Rattle.vo_spec.specs.Secret.{Secret};
 ghost use Rattle.owner_state.specs.Stepping.{AreStepsTo};
 ghost use Rattle.owner_journal.specs.Entries.{entries_of};
 ghost use Rattle.owner_journal.specs.Resting.{IsAtRest};
-ghost use Rattle.vo_words.specs.Height.{number_of};
+ghost use Rattle.vo_words.specs.Shapes.{plain_shape};
 ghost use Rattle.vo_commands.specs.Expected.{script_limit, with_file, Anything, with_seed};
 ghost use Rattle.vo_commands.specs.Committing.{CanGoOn};
 ghost use Rattle.vo_commands.specs.Owning.{CommitsFrom, CommitsOnline, CommitsOver, OwnEnds, Prepares, commitment_expected, commitment_in};
@@ -42,7 +42,7 @@ pub fn own<F: Shelf, D: Disk, N: Net, S: Sink>(
     commitment: &Commitment<'_>,
 ) -> u8
     ensures ends { IfSome (F.contents files.old) (λ known. OwnEnds (commitment_expected commitment.now.seed.now commitment.now.script.now
-        (number_of commitment.now.height) known)
+        (plain_shape commitment.now.shape) known)
         (FaultRose (F.faults files.old) (F.faults files.new))
         (FaultRose (N.faults net.old) (N.faults net.new))
         (FaultRose (D.faults disk.old) (D.faults disk.new))
@@ -50,7 +50,7 @@ pub fn own<F: Shelf, D: Disk, N: Net, S: Sink>(
         (D.drive disk.old) (D.drive disk.new) (N.wire net.old) (N.wire net.new)
         (S.written out.old) (S.written out.new)) }
     ensures files { LeavesFiles F.contents F.faults F.misses
-        (Along (λ known. with_seed known commitment.now.seed.now (number_of commitment.now.height)
+        (Along (λ known. with_seed known commitment.now.seed.now (plain_shape commitment.now.shape)
         (λ _. with_file known commitment.now.script.now script_limit (λ _. Anything)))) files.old
         files.new }
 
@@ -65,7 +65,7 @@ pub fn own<F: Shelf, D: Disk, N: Net, S: Sink>(
     ensures net_misses { (before : ConnectionModel) → N.wire net.old ≡ Some before
         → 1 ≤ length before.queue → N.misses net.new ≡ N.misses net.old }
 {
-    match take_seed(alloc, files, commitment.seed, commitment.height) {
+    match take_seed(alloc, files, commitment.seed, commitment.shape) {
         Ok(key) => own_with_key(alloc, &key, files, disk, net, out, commitment),
         Err(stop) => print_outcome(out, Err(stop)),
     }

@@ -189,7 +189,11 @@ fn replay_journal(alloc: Global, key: &SecretKey, entries: &[Entry]) -> Result<O
     ensures inside { StaysInside result }
 {
     match replay(alloc, key, entries) {
-        Ok(owner) => Ok(owner),
+        Ok(mut owner) => {
+            // A tree for which there is no memory now is made as it is signed in.
+            let _ = owner.prepare(alloc);
+            Ok(owner)
+        }
         Err(ReplayFault::Entry { index }) => Err(Stop::Refused(bad_entry(alloc, index)?)),
         Err(ReplayFault::Memory) => Err(Stop::Memory),
     }

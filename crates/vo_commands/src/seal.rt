@@ -2,7 +2,7 @@
 ghost use Rattle.std.specs.Prelude.{[], ◌∷◌, IfSome};
 ghost use Rattle.vo_commands.specs.Expected.{Exactly, script_expected, seal_expected, seal_output};
 ghost use Rattle.vo_commands.specs.Reports.{Answers, StaysInside};
-ghost use Rattle.vo_words.specs.Height.{number_of};
+ghost use Rattle.vo_words.specs.Shapes.{plain_shape};
 ghost use Rattle.owner_state.specs.Sealing.{FitEach};
 ghost use Rattle.vo_commands.specs.Taking.{TakesFiles, Along};
 
@@ -16,7 +16,7 @@ use outside::Shelf;
 use owner_state::{SealFault, seal as seal_batches};
 use std::alloc::Global;
 use vo_spec::{Batch, List};
-use vo_words::Height;
+use vo_words::KeyShape;
 
 /// The journal of the script's batches, signed by the key of the seed file.
 pub fn seal<F: Shelf>(
@@ -24,14 +24,14 @@ pub fn seal<F: Shelf>(
     files: &mut F,
     seed: &str,
     script: &str,
-    height: Height,
+    shape: KeyShape,
 ) -> Result<Report, Stop>
     ensures known { IfSome (F.contents files.old)
-        (λ known. Answers (seal_expected seed.now script.now (number_of height) known) result) }
+        (λ known. Answers (seal_expected seed.now script.now (plain_shape shape) known) result) }
     ensures files { TakesFiles F.contents F.faults F.misses (Along
-        (seal_expected seed.now script.now (number_of height))) files.old files.new result }
+        (seal_expected seed.now script.now (plain_shape shape))) files.old files.new result }
 {
-    let key = take_seed(alloc, files, seed, height)?;
+    let key = take_seed(alloc, files, seed, shape)?;
     let script = take_file(alloc, files, script, SCRIPT_LIMIT)?;
     seal_script(alloc, &key, &script)
 }

@@ -148,12 +148,12 @@ fn run_command<F: Shelf, N: Net>(
         → N.misses net.new ≡ N.misses net.old }
 {
     match command {
-        Command::Keygen { seed, height } => keygen(alloc, files, seed, height),
+        Command::Keygen { seed, shape } => keygen(alloc, files, seed, shape),
         Command::Seal {
             seed,
             script,
-            height,
-        } => seal(alloc, files, seed, script, height),
+            shape,
+        } => seal(alloc, files, seed, script, shape),
         Command::Answer {
             key,
             journal,

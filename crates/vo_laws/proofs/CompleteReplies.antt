@@ -29,7 +29,7 @@ use Rattle.vo_spec.specs.Pruning.{is_missing, has_surplus, prune_tree}
 use Rattle.vo_spec.specs.Needs.{meets_left, uncut_need, right_need, named_cells, seen_row_view, right_needs, needs, tables_used, same_table}
 use Rattle.vo_spec.specs.Checks.{table_named, has_table_shape, root_fault, trees_of, key_fault, leaf_fault, signature_fault, age_fault, catalog_fault, count_fault, shape_fault, missing_fault, surplus_fault, check_fault, seen_outcome, answer_to}
 use Rattle.vo_spec.specs.Replies.{Reply}
-use Rattle.vo_spec.specs.Lms.{key_id, lms_valid}
+use Rattle.vo_spec.specs.Keys.{key_id, lms_valid}
 use Rattle.vo_spec.specs.Owners.{IsSigned}
 use Rattle.vo_spec.specs.Honest.{Stored, RepresentTables, catalog_of, stored_tree, pruned_each, honest_reply, honest_trees, honest_record}
 use Rattle.vo_laws.proofs.RepresentationLaws.{stands}

@@ -26,6 +26,7 @@ pub mod RepresentationLaws
 pub mod TreeFits
 pub mod ChangedFits
 pub mod TreeLevels
+pub mod KeyLaws
 pub mod StoredFits
 pub mod WalkLaws
 pub mod PrunedLaws

@@ -8,20 +8,23 @@ use Rattle.vo_spec.specs.declared.signatures.OtsType.{OtsType}
 use Rattle.vo_spec.specs.declared.signatures.OtsType.TheVariants.{W1, W2, W4, W8}
 use Rattle.vo_spec.specs.declared.signatures.LmsType.{LmsType}
 use Rattle.vo_spec.specs.declared.signatures.LmsType.TheVariants.{H5, H10, H15, H20, H25}
+use Rattle.vo_spec.specs.declared.signatures.Levels.{Levels}
+use Rattle.vo_spec.specs.declared.signatures.Levels.TheVariants.{One, Two}
 use Rattle.vo_spec.specs.declared.tables.Command.{Command}
 use Rattle.vo_spec.specs.declared.records.Entry.{Entry}
-use Rattle.vo_spec.specs.Bytes.{u32_bytes}
 use Rattle.vo_spec.specs.Tables.{apply_batch, tables_after}
 use Rattle.vo_spec.specs.Batches.{FitsBatch}
-use Rattle.vo_spec.specs.OtsSets.{ots_code_of, ots_signature_len}
-use Rattle.vo_spec.specs.LmsSets.{lms_code_of, height_of, leaves_of, lms_signature_len}
-use Rattle.vo_spec.specs.Lms.{public_bytes, key_lms, key_ots, signature_len_by, key_signature_len}
-use Rattle.vo_spec.specs.Secret.{Secret, tree_node, public_of_secret}
+use Rattle.vo_spec.specs.OtsSets.{ots_signature_len}
+use Rattle.vo_spec.specs.LmsSets.{height_of, lms_signature_len}
+use Rattle.vo_spec.specs.Lms.{tree_lms, tree_ots, signature_len_by}
+use Rattle.vo_spec.specs.Keys.{levels_of, key_tree, signature_len_at, key_signature_len}
+use Rattle.vo_spec.specs.Secret.{Secret, public_of_secret, secret_leaves}
 use Rattle.vo_spec.specs.Records.{record_bytes}
 use Rattle.vo_spec.specs.Journals.{max_signature, FitsEntry, batches_of}
 use Rattle.vo_spec.specs.Honest.{honest_trees, honest_record, sealed_entry, sealed_after, seal_batches}
 use Rattle.vo_spec.specs.Owners.{IsSigned, IsLoadableEntry, AreLoadableAfter, AreLoadable}
 use Rattle.vo_laws.specs.Sealing.{AreAcceptedAfter, SignsValidly}
+use Rattle.vo_laws.proofs.KeyLaws.{length-public_of_tree, tree_of_public}
 use Rattle.vo_laws.proofs.StoredFits.{record_fits}
 use Rattle.vo_laws.proofs.ProofSizes.{honest_proofs_fit}
 use Rattle.vo_laws.proofs.StepLaws.{no_tables_before, no_trees_before, no_commands_fit}
@@ -29,7 +32,7 @@ use Rattle.vo_laws.proofs.ListLaws.{each_both}
 
 -- Signatures are short enough for a journal.
 
-set_short : (lms : LmsType) (ots : OtsType) → lms_signature_len lms ots ≤ max_signature
+pub set_short : (lms : LmsType) (ots : OtsType) → lms_signature_len lms ots ≤ 9324
 set_short lms ots =
     let chains : ots_signature_len ots ≤ 8516 = by_width ots in
     let path : height_of lms ≤ 25 = by_height lms in
@@ -50,33 +53,26 @@ set_short lms ots =
 
 pub signatures_short : (key : List ℕ) → key_signature_len key ≤ max_signature
 unfolding key_signature_len
-signatures_short key = step (key_lms key) (key_ots key)
+signatures_short key = step (levels_of key) (tree_lms (key_tree key)) (tree_ots (key_tree key))
   where
-    step : (lms : Option LmsType) (ots : Option OtsType) → signature_len_by lms ots ≤ max_signature
-    step (Some lms) (Some ots) = set_short lms ots
-    step (Some lms) None = omega arith
-    step None (Some ots) = omega arith
-    step None None = omega arith
+    len_at : (levels : Levels) (len : ℕ) → len ≤ 9324 → signature_len_at levels len ≤ max_signature
+    len_at One len short = omega (arith, short)
+    len_at Two len short = omega (arith, short)
+
+    step : (levels : Levels) (lms : Option LmsType) (ots : Option OtsType) → signature_len_at levels (signature_len_by lms ots) ≤ max_signature
+    step levels (Some lms) (Some ots) = len_at levels (lms_signature_len lms ots) (set_short lms ots)
+    step levels (Some lms) None = len_at levels 0 (omega arith)
+    step levels None (Some ots) = len_at levels 0 (omega arith)
+    step levels None None = len_at levels 0 (omega arith)
 
 -- Entries fit.
 
-length-u32 : (n : ℕ) → length (u32_bytes n) ≡ 4
-unfolding u32_bytes
-length-u32 n = refl
+key_long : (secret : Secret) → length secret.tree.id ≡ 16 → 24 ≤ length (key_tree (public_of_secret secret))
+key_long secret sixteen =
+    let whole = ap length (tree_of_public secret sixteen) ∙ length-public_of_tree secret.tree sixteen in
+    omega (arith, whole)
 
-parts_long : (codes more id root : List ℕ) → length codes ≡ 4 → length more ≡ 4 → length id ≡ 16 → 24 ≤ length (codes ++ more ++ id ++ root)
-parts_long codes more id root four other sixteen = omega (arith, length-append (codes ++ more ++ id) root, length-append (codes ++ more) id, length-append codes more)
-
-bytes_long : (lms : LmsType) (ots : OtsType) (id root : List ℕ) → length id ≡ 16 → 24 ≤ length (public_bytes lms ots id root)
-unfolding public_bytes
-bytes_long lms ots id root sixteen =
-    parts_long (u32_bytes (lms_code_of lms)) (u32_bytes (ots_code_of ots)) id root (length-u32 (lms_code_of lms)) (length-u32 (ots_code_of ots)) sixteen
-
-key_long : (secret : Secret) → length secret.id ≡ 16 → 24 ≤ length (public_of_secret secret)
-unfolding public_of_secret
-key_long secret sixteen = bytes_long secret.lms secret.ots secret.id (tree_node secret 1) sixteen
-
-pub sealed_entry_fits : (secret : Secret) (earlier : List (List Command)) (batch : List Command) → length secret.id ≡ 16
+pub sealed_entry_fits : (secret : Secret) (earlier : List (List Command)) (batch : List Command) → length secret.tree.id ≡ 16
     → AllByRecursion FitsBatch earlier → FitsBatch batch → length earlier < 2 ^ 64
     → length (sealed_entry secret earlier batch).signature ≤ max_signature → FitsEntry (sealed_entry secret earlier batch)
 unfolding sealed_entry
@@ -129,13 +125,13 @@ unfolding seal_batches AreLoadable
 sealed_are_loadable secret batches accepted signed =
     (first_record secret, signed.0, loadable_after secret ([] ∷ []) batches (accepted_behind [] batches accepted) signed.1)
 
-entry_signed : (secret : Secret) (earlier : List (List Command)) (batch : List Command) → SignsValidly secret → length earlier < leaves_of secret.lms → Signed secret (sealed_entry secret earlier batch)
+entry_signed : (secret : Secret) (earlier : List (List Command)) (batch : List Command) → SignsValidly secret → length earlier < secret_leaves secret → Signed secret (sealed_entry secret earlier batch)
 unfolding sealed_entry honest_record
 entry_signed secret earlier batch valid there =
     let v = valid (length earlier) (record_bytes (honest_record (public_of_secret secret) (length earlier) (honest_trees (earlier ++ batch ∷ [])))) there in
     record { leaf = v.1; valid = v.0 }
 
-signed_each : (secret : Secret) (earlier batches : List (List Command)) → SignsValidly secret → length earlier + length batches ≤ leaves_of secret.lms
+signed_each : (secret : Secret) (earlier batches : List (List Command)) → SignsValidly secret → length earlier + length batches ≤ secret_leaves secret
     → AllByRecursion (Signed secret) (sealed_after secret earlier batches)
 signed_each secret earlier [] valid few = tt
 signed_each secret earlier (batch ∷ batches) valid few = (
@@ -143,7 +139,7 @@ signed_each secret earlier (batch ∷ batches) valid few = (
   signed_each secret (earlier ++ batch ∷ []) batches valid (omega (arith, length-append earlier (batch ∷ []))),
 )
 
-pub sealed_are_signed : (secret : Secret) (batches : List (List Command)) → SignsValidly secret → length batches < leaves_of secret.lms
+pub sealed_are_signed : (secret : Secret) (batches : List (List Command)) → SignsValidly secret → length batches < secret_leaves secret
     → AllByRecursion (λ (e : Entry). IsSigned (public_of_secret secret) e.rec e.signature) (seal_batches secret batches)
 unfolding seal_batches
 sealed_are_signed secret batches valid few = signed_each secret [] ([] ∷ batches) valid (omega arith)
@@ -179,7 +175,7 @@ batches_sealed secret batches = batches_after secret [] ([] ∷ batches)
 abbrev ShortlySigned : Entry → Type 0
 ShortlySigned e = length e.signature ≤ max_signature
 
-fit_after : (secret : Secret) (earlier batches : List (List Command)) → length secret.id ≡ 16 → AllByRecursion FitsBatch earlier
+fit_after : (secret : Secret) (earlier batches : List (List Command)) → length secret.tree.id ≡ 16 → AllByRecursion FitsBatch earlier
     → AllByRecursion FitsBatch batches → length earlier + length batches ≤ 2 ^ 64
     → AllByRecursion ShortlySigned (sealed_after secret earlier batches) → AllByRecursion FitsEntry (sealed_after secret earlier batches)
 fit_after secret earlier [] sixteen earlier_fit fits few short = tt
@@ -189,7 +185,7 @@ fit_after secret earlier (batch ∷ batches) sixteen earlier_fit fits few short 
       (omega (arith, length-append earlier (batch ∷ []))) short.1,
 )
 
-pub sealed_fit : (secret : Secret) (batches : List (List Command)) → length secret.id ≡ 16 → AllByRecursion FitsBatch batches → length batches < 2 ^ 64
+pub sealed_fit : (secret : Secret) (batches : List (List Command)) → length secret.tree.id ≡ 16 → AllByRecursion FitsBatch batches → length batches < 2 ^ 64
     → AllByRecursion (λ (e : Entry). length e.signature ≤ max_signature) (seal_batches secret batches) → AllByRecursion FitsEntry (seal_batches secret batches)
 unfolding seal_batches
 sealed_fit secret batches sixteen fits few short = fit_after secret [] ([] ∷ batches) sixteen tt (no_commands_fit, fits) (omega arith) short

@@ -19,7 +19,8 @@ use Rattle.vo_spec.specs.Values.{key_of, key_lt}
 use Rattle.vo_spec.specs.Tables.{max_tables, table_header_of, row_of, cell_changes, table_named, refusal, apply, apply_batch, tables_after}
 use Rattle.vo_spec.specs.Batches.{FitsCommand, FitsBatch}
 use Rattle.vo_spec.specs.Records.{FitsSchema, FitsCatalogTable, FitsCatalog, FitsRecord, are_rising, catalog_digest}
-use Rattle.vo_spec.specs.Lms.{key_id}
+use Rattle.vo_spec.specs.Lms.{tree_id}
+use Rattle.vo_spec.specs.Keys.{key_id, key_tree}
 use Rattle.vo_spec.specs.Names.{FitsName}
 use Rattle.vo_spec.specs.Cells.{whole_entry}
 use Rattle.vo_spec.specs.Parts.{stub, leaf, inner, entries, leaf_bytes}
@@ -205,10 +206,10 @@ catalog_fits stored tables zs good = record {
 
 -- Records.
 
-pub record_fits : (key : List ℕ) (version : ℕ) (stored : List Stored) → 24 ≤ length key → version < 2 ^ 64 → FitsRecord (honest_record key version stored)
-unfolding honest_record key_id id_at catalog_digest
+pub record_fits : (key : List ℕ) (version : ℕ) (stored : List Stored) → 24 ≤ length (key_tree key) → version < 2 ^ 64 → FitsRecord (honest_record key version stored)
+unfolding honest_record key_id tree_id id_at catalog_digest
 record_fits key version stored long lt = record {
-  id = omega (arith, length-take 16 (drop 8 key), length-drop 8 key);
+  id = omega (arith, length-take 16 (drop 8 (key_tree key)), length-drop 8 (key_tree key));
   version = lt;
   catalog = length-sha256 _;
 }

@@ -10,9 +10,8 @@ ghost use Rattle.vo_spec.specs.Batches.{FitsBatch};
 ghost use Rattle.vo_spec.specs.Fits.{FitsTree};
 ghost use Rattle.vo_spec.specs.Owners.{IsSigned, IsLoadableEntry, AreLoadable};
 ghost use Rattle.vo_spec.specs.Tables.{apply_batch, after_batch, tables_after};
-ghost use Rattle.vo_spec.specs.LmsSets.{leaves_of};
-ghost use Rattle.vo_spec.specs.Lms.{key_signature_len};
-ghost use Rattle.vo_spec.specs.Secret.{Secret, public_of_secret};
+ghost use Rattle.vo_spec.specs.Keys.{key_signature_len};
+ghost use Rattle.vo_spec.specs.Secret.{Secret, public_of_secret, secret_leaves};
 ghost use Rattle.vo_spec.specs.Trees.{RowTree};
 ghost use Rattle.vo_spec.specs.Parts.{levels};
 ghost use Rattle.vo_spec.specs.Inserts.{insert_proof};
@@ -64,12 +63,12 @@ pub fn honest_proofs_fit()
 pub fn sealed_entries_are_loadable()
     ensures signatures_short { (key : List ℕ) → key_signature_len key ≤ max_signature }
     ensures entry_fits { (secret : Secret) (earlier : List (List Command)) (batch : List Command)
-        → length secret.id ≡ 16
+        → length secret.tree.id ≡ 16
         → AllByRecursion FitsBatch earlier → FitsBatch batch
         → length earlier < 2 ^ 64 → length (sealed_entry secret earlier batch).signature
         ≤ max_signature
         → FitsEntry (sealed_entry secret earlier batch) }
-    ensures entries_fit { (secret : Secret) (batches : List (List Command)) → length secret.id ≡ 16
+    ensures entries_fit { (secret : Secret) (batches : List (List Command)) → length secret.tree.id ≡ 16
         → AllByRecursion FitsBatch batches
         → length batches < 2 ^ 64 → AllByRecursion
         (λ (e : Entry). length e.signature ≤ max_signature) (seal_batches secret batches)
@@ -86,7 +85,7 @@ pub fn sealed_entries_are_loadable()
         (seal_batches secret batches)
         → AreLoadable (public_of_secret secret) (seal_batches secret batches) }
     ensures signed { (secret : Secret) (batches : List (List Command)) → SignsValidly secret
-        → length batches < leaves_of secret.lms
+        → length batches < secret_leaves secret
         → AllByRecursion (λ (e : Entry). IsSigned (public_of_secret secret) e.rec e.signature)
         (seal_batches secret batches) }
     ensures grows { (secret : Secret) (batches : List (List Command)) (batch : List Command)

@@ -18,6 +18,7 @@ ghost use Rattle.vo_spec.specs.declared.tables.Command.{Command};
 ghost use Rattle.vo_spec.specs.declared.tables.Table.{Table};
 ghost use Rattle.vo_spec.specs.Batches.{FitsBatch};
 ghost use Rattle.vo_spec.specs.Fits.{FitsTree};
+ghost use Rattle.vo_spec.specs.Keys.{key_tree};
 ghost use Rattle.vo_spec.specs.Owners.{IsSigned};
 ghost use Rattle.vo_spec.specs.Records.{FitsCatalog, FitsRecord, table_headers, catalog_bytes, catalog_digest};
 ghost use Rattle.vo_spec.specs.Collides.{Collides};
@@ -54,7 +55,7 @@ pub fn honest_trees_represent_the_tables()
         → AllByRecursion (λ (s : Stored). FitsTree s.tree) (honest_trees batches) }
     ensures catalog_fits { (batches : List (List Command)) → AllByRecursion FitsBatch batches
         → FitsCatalog (catalog_of (honest_trees batches)) }
-    ensures record_fits { (key : List ℕ) (version : ℕ) (stored : List Stored) → 24 ≤ length key
+    ensures record_fits { (key : List ℕ) (version : ℕ) (stored : List Stored) → 24 ≤ length (key_tree key)
         → version < 2 ^ 64
         → FitsRecord (honest_record key version stored) }
     ensures reply_fits { (batches : List (List Command)) (q : Query) (rec : Record)

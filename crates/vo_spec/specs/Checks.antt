@@ -23,7 +23,7 @@ use Rattle.vo_spec.specs.Values.{kind_of, same_kind, is_text}
 use Rattle.vo_spec.specs.Tables.{column_at, max_key}
 use Rattle.vo_spec.specs.Results.{bound_sources, binding_fault, header, outcome, answer_rows}
 use Rattle.vo_spec.specs.Conditions.{Query}
-use Rattle.vo_spec.specs.Lms.{key_id, leaf_of, lms_valid}
+use Rattle.vo_spec.specs.Keys.{key_id, leaf_of, lms_valid}
 use Rattle.vo_spec.specs.Records.{record_bytes, catalog_digest, table_headers}
 use Rattle.vo_spec.specs.Replies.{Reply, IsReply, IsNoReply, max_reply}
 use Rattle.vo_spec.specs.Parts.{entries}

@@ -22,7 +22,7 @@ use Rattle.vo_spec.specs.Values.{key_of, key_lt, IsKeyOf}
 use Rattle.vo_spec.specs.Tables.{TableHeader, refusal, column_number, value_at, row_of, cell_changes}
 use Rattle.vo_spec.specs.Conditions.{Query}
 use Rattle.vo_spec.specs.Results.{bound_sources}
-use Rattle.vo_spec.specs.Lms.{key_id}
+use Rattle.vo_spec.specs.Keys.{key_id}
 use Rattle.vo_spec.specs.Secret.{Secret, public_of_secret, lms_signature}
 use Rattle.vo_spec.specs.Records.{record_bytes, catalog_digest, table_headers}
 use Rattle.vo_spec.specs.Journals.{batches_of}

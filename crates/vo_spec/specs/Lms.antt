@@ -1,5 +1,5 @@
 -- Signatures by a Merkle tree of one-time keys, LMS over SHA-256 with m = 32 (RFC 8554, section 5).
--- Keys and signatures are their bytes.
+-- A tree's key and its signatures are their bytes.
 use Rattle.std.specs.Prelude.{◌≡◌, ◌==◌, ℕ, zero, suc, ◌+◌, ◌*◌, ◌/◌, ◌%◌, ◌^◌, Bool, false, ◌&&◌, nat_lt, nat_le, List, ◌++◌, length, take, drop, Option, Some, None, if◌then◌else◌, ◌⊎◌}
 use Rattle.std.specs.Str.{bytes_eq}
 use Rattle.std.specs.Option.{option_map_or}
@@ -71,45 +71,37 @@ is_valid_by (Some lms) (Some ots) id root message signature =
     is_valid_under lms ots id root message signature
 is_valid_by _ _ id root message signature = false
 
--- the parts of a public key: two typecodes, the identifier I and the root (5.3)
-abbrev pub key_lms : List ℕ → Option LmsType
-key_lms key = lms_of (u32_at key 0)
+-- the parts of a tree's key: two typecodes, the identifier I and the root (5.3)
+abbrev pub tree_lms : List ℕ → Option LmsType
+tree_lms tree = lms_of (u32_at tree 0)
 
-abbrev pub key_ots : List ℕ → Option OtsType
-key_ots key = ots_of (u32_at key 4)
+abbrev pub tree_ots : List ℕ → Option OtsType
+tree_ots tree = ots_of (u32_at tree 4)
 
-unfoldable pub key_id : List ℕ → List ℕ
-key_id key = id_at key 8
+unfoldable pub tree_id : List ℕ → List ℕ
+tree_id tree = id_at tree 8
 
-unfoldable pub key_root : List ℕ → List ℕ
-key_root key = digest_at key 24
+unfoldable pub tree_root : List ℕ → List ℕ
+tree_root tree = digest_at tree 24
 
-unfoldable pub public_bytes : LmsType → OtsType → List ℕ → List ℕ → List ℕ
-public_bytes lms ots id root = u32_bytes (lms_code_of lms) ++ u32_bytes (ots_code_of ots)
+unfoldable pub tree_key_bytes : LmsType → OtsType → List ℕ → List ℕ → List ℕ
+tree_key_bytes lms ots id root = u32_bytes (lms_code_of lms) ++ u32_bytes (ots_code_of ots)
     ++ id ++ root
 
--- 56 bytes whose typecodes do not both name a set
-unfoldable pub IsUnknownSet : List ℕ → Type 0
-IsUnknownSet key = (length key ≡ 56) × ((key_lms key ≡ None) ⊎ (key_ots key ≡ None))
+-- the signature of a message is valid under a tree's key (algorithm 6)
+unfoldable pub tree_valid : List ℕ → List ℕ → List ℕ → Bool
+tree_valid tree message signature =
+    (length tree == 56) && is_valid_by (tree_lms tree) (tree_ots tree) (tree_id tree)
+    (tree_root tree) message signature
 
--- the signature of a message is valid under a public key (algorithm 6)
-unfoldable pub lms_valid : List ℕ → List ℕ → List ℕ → Bool
-lms_valid key message signature =
-    (length key == 56) && is_valid_by (key_lms key) (key_ots key) (key_id key) (key_root key)
-    message signature
+-- how many leaves a tree has, none where its typecode names no set
+abbrev pub tree_leaves : List ℕ → ℕ
+tree_leaves tree = option_map_or leaves_of (tree_lms tree) 0
 
--- the leaf that a signature says it is by, where it is long enough to say so
-unfoldable pub leaf_of : List ℕ → List ℕ → Option ℕ
-leaf_of key signature = if nat_le 4 (length signature) then Some (u32_at signature 0) else None
-
--- how many leaves a key has, none where its typecode names no set
-unfoldable pub leaf_count : List ℕ → ℕ
-leaf_count key = option_map_or leaves_of (key_lms key) 0
-
--- how long a key's signatures are, in bytes
+-- how long a tree's signatures are, in bytes
 abbrev pub signature_len_by : Option LmsType → Option OtsType → ℕ
 signature_len_by (Some lms) (Some ots) = lms_signature_len lms ots
 signature_len_by _ _ = 0
 
-unfoldable pub key_signature_len : List ℕ → ℕ
-key_signature_len key = signature_len_by (key_lms key) (key_ots key)
+abbrev pub tree_signature_len : List ℕ → ℕ
+tree_signature_len tree = signature_len_by (tree_lms tree) (tree_ots tree)

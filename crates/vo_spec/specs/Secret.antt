@@ -1,57 +1,49 @@
--- Secret keys of LMS, and what they sign (RFC 8554, section 5 and appendix A).
-use Rattle.std.specs.Prelude.{ℕ, zero, suc, ◌+◌, ◌-◌, ◌*◌, ◌/◌, ◌%◌, ◌^◌, ◌==◌, nat_le, List, ◌++◌, if◌then◌else◌}
+-- Secret keys of one level and of two, and what they sign (RFC 8554, section 6).
+use Rattle.std.specs.Prelude.{ℕ, ◌*◌, ◌/◌, ◌%◌, ◌==◌, List, ◌++◌, take, if◌then◌else◌}
 use Rattle.vo_spec.specs.declared.signatures.OtsType.{OtsType}
 use Rattle.vo_spec.specs.declared.signatures.LmsType.{LmsType}
 use Rattle.vo_spec.specs.declared.signatures.LmsType.TheVariants.{H5, H10}
-use Rattle.vo_spec.specs.Bytes.{u32_bytes, join_pieces}
-use Rattle.vo_spec.specs.Ots.{ots_public, ots_signature}
-use Rattle.vo_spec.specs.LmsSets.{lms_code_of, height_of}
-use Rattle.vo_spec.specs.Lms.{leaf_node, inner_node, public_bytes}
+use Rattle.vo_spec.specs.declared.signatures.Levels.{Levels}
+use Rattle.vo_spec.specs.declared.signatures.Levels.TheVariants.{One, Two}
+use Rattle.vo_spec.specs.Bytes.{u32_bytes}
+use Rattle.vo_spec.specs.Ots.{step}
+use Rattle.vo_spec.specs.LmsSets.{leaves_of}
+use Rattle.vo_spec.specs.Keys.{key_bytes, leaves_at}
+use Rattle.vo_spec.specs.SecretTrees.{SecretTree, tree_of, public_of_tree, tree_signature}
 
--- a secret key: the identifier I, the seed and the parameter sets
+-- a secret key: its tree, the upper one where there are two levels
 pub record Secret : Type 0 where
-  pub id : List ℕ
-  pub seed : List ℕ
-  pub ots : OtsType
-  pub lms : LmsType
+  pub tree : SecretTree
+  pub levels : Levels
 
-abbrev pub secret_of : List ℕ → List ℕ → OtsType → LmsType → Secret
-secret_of id seed ots lms = record { id = id; seed = seed; ots = ots; lms = lms }
+abbrev pub secret_of : Levels → List ℕ → List ℕ → OtsType → LmsType → Secret
+secret_of levels id seed ots lms = record { tree = tree_of id seed ots lms; levels = levels }
 
--- the tree's node r where it is at or above 2 ^ h, from the one-time key of its leaf
-abbrev pub bottom_node : Secret → ℕ → List ℕ
-bottom_node key r = leaf_node key.id r
-    (ots_public key.id (r - 2 ^ height_of key.lms) key.ots key.seed)
-
--- T[r] (5.3), at most n levels above the leaves
-unfoldable pub node_within : Secret → ℕ → ℕ → List ℕ
-node_within key zero r = bottom_node key r
-node_within key (suc n) r =
-    if nat_le (2 ^ height_of key.lms) r then bottom_node key r
-    else inner_node key.id r (node_within key n (2 * r)) (node_within key n (2 * r + 1))
-
--- T[r] (5.3)
-unfoldable pub tree_node : Secret → ℕ → List ℕ
-tree_node key r = node_within key (height_of key.lms) r
+-- The tree below leaf u of an upper tree. Its identifier and its seed are made of the upper tree's
+-- as the secrets of a chain are, at two numbers that no chain has.
+unfoldable pub lower_tree : SecretTree → ℕ → SecretTree
+lower_tree tree u = tree_of (take 16 (step tree.id u 0xffff 0xff tree.seed))
+    (step tree.id u 0xfffe 0xff tree.seed) tree.ots tree.lms
 
 -- the public key of a secret one
 unfoldable pub public_of_secret : Secret → List ℕ
-public_of_secret key = public_bytes key.lms key.ots key.id (tree_node key 1)
+public_of_secret secret = key_bytes secret.levels (public_of_tree secret.tree)
 
--- the number of a node's sibling
-abbrev pub sibling_of : ℕ → ℕ
-sibling_of r = if r % 2 == 0 then r + 1 else r - 1
+-- how many messages a secret key signs
+abbrev pub secret_leaves : Secret → ℕ
+secret_leaves secret = leaves_at secret.levels (leaves_of secret.tree.lms)
 
--- the sibling at a level of the path from the leaf q up
-abbrev pub path_node : Secret → ℕ → ℕ → List ℕ
-path_node key q level = tree_node key (sibling_of ((2 ^ height_of key.lms + q) / 2 ^ level))
+abbrev pub signature_by : Levels → SecretTree → ℕ → List ℕ → List ℕ
+signature_by One tree q message = tree_signature tree q message
+signature_by Two tree q message =
+    let u = q / leaves_of tree.lms in
+    let lower = lower_tree tree u in
+    u32_bytes 1 ++ tree_signature tree u (public_of_tree lower) ++ public_of_tree lower
+    ++ tree_signature lower (q % leaves_of tree.lms) message
 
--- the signature of a message by the leaf q (5.4): q, the one-time signature, a typecode and the
--- path
+-- the signature of a message by leaf q, those of the lower trees numbered through
 unfoldable pub lms_signature : Secret → ℕ → List ℕ → List ℕ
-lms_signature key q message =
-    u32_bytes q ++ ots_signature key.id q key.ots key.seed message
-    ++ u32_bytes (lms_code_of key.lms) ++ join_pieces (path_node key q) (height_of key.lms)
+lms_signature secret q message = signature_by secret.levels secret.tree q message
 
 -- the set of a height that secret keys are made with: 5 or 10
 abbrev pub lms_of_height : ℕ → LmsType

@@ -32,7 +32,7 @@ pub enum CheckFault {
     #[error("a signature by another leaf than the version's")]
     WrongLeaf {
         version: u64,
-        q: u32,
+        q: u64,
     },
     #[error("a bad signature")]
     BadSignature,

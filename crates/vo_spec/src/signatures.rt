@@ -1,5 +1,5 @@
 //! The parameter sets of one-time and of tree signatures over SHA-256 with 32 bytes (RFC 8554,
-//! sections 4.1 and 5.1).
+//! sections 4.1 and 5.1), and the levels of keys.
 ghost use Rattle.std.specs.Prelude.{◌≡◌};
 ghost use Rattle.vo_spec.specs.OtsSets.{ots_of, ots_code_of, width_of, count_of, shift_of, ots_signature_len};
 ghost use Rattle.vo_spec.specs.LmsSets.{lms_of, lms_code_of, height_of};
@@ -81,6 +81,14 @@ impl OtsType {
     {
         36 + 32 * self.count() as usize
     }
+}
+
+/// How many trees stand above each other where a key signs: one, or an upper one whose leaves sign
+/// the keys of lower ones (RFC 8554, section 6).
+#[derive(Clone, Copy, PartialEq, Eq, Debug)]
+pub enum Levels {
+    One,
+    Two,
 }
 
 /// An LMS parameter set, named by the height of its tree.

@@ -35,7 +35,7 @@ unfolding honest_record
 record_fits_bytes key batches installed is =
     let few = version_below key installed.rec installed.signature is.signed in
     let version : installed.rec.version ≡ length batches = ap (λ (x : Record). x.version) is.record_is in
-    let long : length key ≡ 56 = key_long key (record_bytes installed.rec) installed.signature is.signed.valid in
+    let long = key_long key installed.rec installed.signature is.signed in
     subst FitsRecord (sym is.record_is) (record_fits key (length batches) (honest_trees batches) (omega (arith, long)) (omega (arith, version, few)))
 
 module _ (s : StoreState) (honest : IsHonestStore s) where

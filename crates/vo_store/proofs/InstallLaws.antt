@@ -6,7 +6,7 @@ use Rattle.std.proofs.lemmas.Bool.{and_parts, and_from, eqb-true, eq-eqb}
 use Rattle.std.proofs.lemmas.Slice.Eq.{bytes_eq-Decides}
 use Rattle.vo_spec.specs.declared.records.Record.{Record}
 use Rattle.vo_spec.specs.Firsts.{and_then, first_of, unless}
-use Rattle.vo_spec.specs.Lms.{leaf_of}
+use Rattle.vo_spec.specs.Keys.{leaf_of}
 use Rattle.vo_spec.specs.Owners.{IsSigned}
 use Rattle.vo_spec.specs.Honest.{Stored, honest_record}
 use Rattle.vo_store.specs.declared.fault.StoreFault.{StoreFault}

@@ -8,7 +8,7 @@ use Rattle.vo_spec.specs.declared.records.Record.{Record}
 use Rattle.vo_spec.specs.Firsts.{and_then, first_of, unless}
 use Rattle.vo_spec.specs.Conditions.{Query}
 use Rattle.vo_spec.specs.Journals.{max_proofs}
-use Rattle.vo_spec.specs.Lms.{leaf_of, lms_valid}
+use Rattle.vo_spec.specs.Keys.{leaf_of, lms_valid}
 use Rattle.vo_spec.specs.Records.{record_bytes}
 use Rattle.vo_spec.specs.Replies.{reply_bytes, proofs_bytes, max_reply}
 use Rattle.vo_spec.specs.Honest.{Stored, honest_proofs, honest_record, honest_reply}

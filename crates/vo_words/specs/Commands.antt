@@ -14,18 +14,22 @@ option_rule id = record (new_rule id) { long = Some id }
 abbrev pub command_of : Text → List Rule → App
 command_of name rules = fold with_rule (new_app name) rules
 
+-- of the key that a seed makes
+abbrev pub key_rules : List Rule
+key_rules = option_rule (codes "height") ∷ option_rule (codes "levels") ∷ []
+
 abbrev pub keygen_app : App
 keygen_app =
-    command_of (codes "keygen") (word_rule (codes "seed") ∷ option_rule (codes "height") ∷ [])
+    command_of (codes "keygen") (word_rule (codes "seed") ∷ key_rules)
 
 abbrev pub seal_app : App
 seal_app = command_of (codes "seal")
-    (word_rule (codes "seed") ∷ word_rule (codes "script") ∷ option_rule (codes "height") ∷ [])
+    (word_rule (codes "seed") ∷ word_rule (codes "script") ∷ key_rules)
 
 abbrev pub own_app : App
 own_app = command_of (codes "own")
     (word_rule (codes "seed") ∷ word_rule (codes "address") ∷ word_rule (codes "script")
-    ∷ option_rule (codes "height") ∷ [])
+    ∷ key_rules)
 
 abbrev pub answer_app : App
 answer_app = command_of (codes "answer")

@@ -1,6 +1,6 @@
 pub mod Numbers
+pub mod Shapes
 pub mod PlainRequest
 pub mod Commands
-pub mod Height
 pub mod Request
 pub mod Forms

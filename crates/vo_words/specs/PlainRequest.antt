@@ -6,12 +6,13 @@ use Rattle.clap.specs.Words.{Row, Text, first_of, fault_of, subcommand_of}
 use Rattle.clap.specs.Kinds.{Kinds}
 use Rattle.vo_words.specs.Commands.{program_app}
 use Rattle.vo_words.specs.Numbers.{written_number}
+use Rattle.vo_words.specs.Shapes.{PlainShape}
 
 -- a command and its words, files by their names and peers by their addresses
 pub data PlainRequest : Type 0 where
-  Keygen : (seed : Text) (height : ℕ) → PlainRequest
-  Seal : (seed script : Text) (height : ℕ) → PlainRequest
-  Own : (seed address script : Text) (height : ℕ) → PlainRequest
+  Keygen : (seed : Text) (shape : PlainShape) → PlainRequest
+  Seal : (seed script : Text) (shape : PlainShape) → PlainRequest
+  Own : (seed address script : Text) (shape : PlainShape) → PlainRequest
   Answer : (key journal query : Text) → PlainRequest
   Serve : (address key journal : Text) (count : ℕ) → PlainRequest
   Check : (key query reply : Text) (least : ℕ) → PlainRequest
@@ -20,14 +21,29 @@ pub data PlainRequest : Type 0 where
   Meet : (key query first second : Text) → PlainRequest
 
 -- a height is 5 or 10, in digits
-abbrev pub height_number : Text → Option ℕ
-height_number text =
+abbrev pub written_height : Text → Option ℕ
+written_height text =
     if bytes_eq text (codes "5") then Some 5
     else (if bytes_eq text (codes "10") then Some 10 else None)
 
 -- 5 where none is given
 abbrev pub given_height : List Row → Option ℕ
-given_height rows = option_map_or height_number (first_of (codes "height") rows) (Some 5)
+given_height rows = option_map_or written_height (first_of (codes "height") rows) (Some 5)
+
+-- a number of levels is 1 or 2
+abbrev pub written_levels : Text → Option ℕ
+written_levels text =
+    if bytes_eq text (codes "1") then Some 1
+    else (if bytes_eq text (codes "2") then Some 2 else None)
+
+-- 1 where none is given
+abbrev pub given_levels : List Row → Option ℕ
+given_levels rows = option_map_or written_levels (first_of (codes "levels") rows) (Some 1)
+
+abbrev pub given_shape : List Row → Option PlainShape
+given_shape rows = option_and_then
+    (λ height. option_map (λ levels. record { height = height; levels = levels })
+    (given_levels rows)) (given_height rows)
 
 -- a version is written in digits, and 0 where none is given
 abbrev pub given_least : List Row → Option ℕ
@@ -45,18 +61,18 @@ with_word id rows rest = option_and_then rest (first_of id rows)
 
 abbrev pub keygen_request : List Row → Option PlainRequest
 keygen_request rows =
-    with_word (codes "seed") rows (λ seed. option_map (Keygen seed) (given_height rows))
+    with_word (codes "seed") rows (λ seed. option_map (Keygen seed) (given_shape rows))
 
 abbrev pub seal_request : List Row → Option PlainRequest
 seal_request rows =
     with_word (codes "seed") rows (λ seed. with_word (codes "script") rows (λ script.
-    option_map (Seal seed script) (given_height rows)))
+    option_map (Seal seed script) (given_shape rows)))
 
 abbrev pub own_request : List Row → Option PlainRequest
 own_request rows =
     with_word (codes "seed") rows (λ seed. with_word (codes "address") rows (λ address.
     with_word (codes "script") rows (λ script.
-    option_map (Own seed address script) (given_height rows))))
+    option_map (Own seed address script) (given_shape rows))))
 
 abbrev pub answer_request : List Row → Option PlainRequest
 answer_request rows =

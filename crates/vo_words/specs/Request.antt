@@ -1,7 +1,7 @@
 -- What a request asks for.
 use Rattle.vo_words.specs.PlainRequest.{PlainRequest}
 use Rattle.vo_words.specs.PlainRequest as is
-use Rattle.vo_words.specs.Height.{number_of}
+use Rattle.vo_words.specs.Shapes.{plain_shape}
 use Rattle.vo_words.specs.declared.request.Command.{Command}
 use Rattle.vo_words.specs.declared.request.Command.TheVariants.{Keygen, Seal, Answer, Check, Ask, Audit, Meet}
 use Rattle.vo_words.specs.declared.request.Commitment.{Commitment}
@@ -10,8 +10,8 @@ use Rattle.vo_words.specs.declared.request.Request.{Request}
 use Rattle.vo_words.specs.declared.request.Request.TheVariants.{Command as OfCommand, Own, Serve}
 
 abbrev pub plain_command : Command → PlainRequest
-plain_command (Keygen seed height) = is.Keygen seed.now (number_of height)
-plain_command (Seal seed script height) = is.Seal seed.now script.now (number_of height)
+plain_command (Keygen seed shape) = is.Keygen seed.now (plain_shape shape)
+plain_command (Seal seed script shape) = is.Seal seed.now script.now (plain_shape shape)
 plain_command (Answer key journal query) = is.Answer key.now journal.now query.now
 plain_command (Check key query reply least) = is.Check key.now query.now reply.now least
 plain_command (Ask address key query least) = is.Ask address.now key.now query.now least
@@ -24,7 +24,7 @@ plain_service service =
 
 abbrev pub plain_commitment : Commitment → PlainRequest
 plain_commitment commitment = is.Own commitment.seed.now commitment.address.now
-    commitment.script.now (number_of commitment.height)
+    commitment.script.now (plain_shape commitment.shape)
 
 abbrev pub plain_request : Request → PlainRequest
 plain_request (OfCommand command) = plain_command command

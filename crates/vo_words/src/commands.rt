@@ -28,11 +28,16 @@ use Argument::{Named, Word};
 const FORMS: [Form<'static>; 9] = [
     Form {
         name: "keygen",
-        takes: &[Word("seed"), Named("height")],
+        takes: &[Word("seed"), Named("height"), Named("levels")],
     },
     Form {
         name: "seal",
-        takes: &[Word("seed"), Word("script"), Named("height")],
+        takes: &[
+            Word("seed"),
+            Word("script"),
+            Named("height"),
+            Named("levels"),
+        ],
     },
     Form {
         name: "own",
@@ -41,6 +46,7 @@ const FORMS: [Form<'static>; 9] = [
             Word("address"),
             Word("script"),
             Named("height"),
+            Named("levels"),
         ],
     },
     Form {

@@ -1,13 +1,13 @@
 //! The words, read by the commands.
 ghost use Rattle.std.specs.Prelude.{◌≡◌, map, option_map, string_bytes, IfOk, IsTrue, ◌↔◌};
 ghost use Rattle.clap.specs.Words.{kind_of, found_of, rows_of, first_of, subcommand_rows_of};
-ghost use Rattle.vo_words.specs.PlainRequest.{request_in, used_request, command_request, keygen_request, seal_request, answer_request, check_request, audit_request, meet_request, own_request, reply_request, serve_request, ask_request, connection_count, given_height, given_least, height_number};
-ghost use Rattle.vo_words.specs.Height.{number_of};
+ghost use Rattle.vo_words.specs.PlainRequest.{request_in, used_request, command_request, keygen_request, seal_request, answer_request, check_request, audit_request, meet_request, own_request, reply_request, serve_request, ask_request, connection_count, given_shape, given_height, given_levels, given_least, written_height, written_levels};
+ghost use Rattle.vo_words.specs.Shapes.{height_number, levels_number, plain_shape};
 ghost use Rattle.vo_words.specs.Request.{plain_command, plain_commitment, plain_request, plain_service};
 
 use crate::commands::program;
 use crate::numbers::number_in;
-use crate::request::{Command, Commitment, Height, Request, Service};
+use crate::request::{Command, Commitment, Height, KeyShape, Levels, Request, Service};
 use clap::error::ErrorKind;
 use clap::{ArgMatches, Error};
 use std::alloc::{AllocError, Global};
@@ -89,8 +89,8 @@ fn keygen_request<'a>(used: &ArgMatches<'a>) -> Option<Command<'a>>
     ensures { option_map plain_command result ≡ keygen_request (rows_of (found_of used.now)) }
 {
     let seed = text_of(used, "seed")?;
-    let height = height_of(used)?;
-    Some(Command::Keygen { seed, height })
+    let shape = shape_of(used)?;
+    Some(Command::Keygen { seed, shape })
 }
 
 fn seal_request<'a>(used: &ArgMatches<'a>) -> Option<Command<'a>>
@@ -98,11 +98,11 @@ fn seal_request<'a>(used: &ArgMatches<'a>) -> Option<Command<'a>>
 {
     let seed = text_of(used, "seed")?;
     let script = text_of(used, "script")?;
-    let height = height_of(used)?;
+    let shape = shape_of(used)?;
     Some(Command::Seal {
         seed,
         script,
-        height,
+        shape,
     })
 }
 
@@ -112,12 +112,12 @@ fn own_request<'a>(used: &ArgMatches<'a>) -> Option<Commitment<'a>>
     let seed = text_of(used, "seed")?;
     let address = text_of(used, "address")?;
     let script = text_of(used, "script")?;
-    let height = height_of(used)?;
+    let shape = shape_of(used)?;
     Some(Commitment {
         seed,
         address,
         script,
-        height,
+        shape,
     })
 }
 
@@ -216,12 +216,29 @@ fn text_of<'a>(used: &ArgMatches<'a>, id: &str) -> Option<&'a str>
     used.get_str(id)
 }
 
+fn shape_of(used: &ArgMatches<'_>) -> Option<KeyShape>
+    ensures { option_map plain_shape result ≡ given_shape (rows_of (found_of used.now)) }
+{
+    let height = height_of(used)?;
+    let levels = levels_of(used)?;
+    Some(KeyShape { height, levels })
+}
+
 fn height_of(used: &ArgMatches<'_>) -> Option<Height>
-    ensures { option_map number_of result ≡ given_height (rows_of (found_of used.now)) }
+    ensures { option_map height_number result ≡ given_height (rows_of (found_of used.now)) }
 {
     match text_of(used, "height") {
         None => Some(Height::Five),
         Some(text) => height_in(text),
+    }
+}
+
+fn levels_of(used: &ArgMatches<'_>) -> Option<Levels>
+    ensures { option_map levels_number result ≡ given_levels (rows_of (found_of used.now)) }
+{
+    match text_of(used, "levels") {
+        None => Some(Levels::One),
+        Some(text) => levels_in(text),
     }
 }
 
@@ -245,12 +262,24 @@ fn connection_count(text: &str) -> Option<u32>
 }
 
 fn height_in(text: &str) -> Option<Height>
-    ensures { option_map number_of result ≡ height_number text.now }
+    ensures { option_map height_number result ≡ written_height text.now }
 {
     if text == "5" {
         Some(Height::Five)
     } else if text == "10" {
         Some(Height::Ten)
+    } else {
+        None
+    }
+}
+
+fn levels_in(text: &str) -> Option<Levels>
+    ensures { option_map levels_number result ≡ written_levels text.now }
+{
+    if text == "1" {
+        Some(Levels::One)
+    } else if text == "2" {
+        Some(Levels::Two)
     } else {
         None
     }

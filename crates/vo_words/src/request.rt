@@ -1,6 +1,6 @@
 //! What the words ask for.
 
-/// The height of a tree of one-time keys: it signs 2^5 or 2^10 times.
+/// The height of a tree of one-time keys, which has 2^5 or 2^10 of them.
 #[derive(Clone, Copy, Debug)]
 pub enum Height {
     Five,
@@ -9,16 +9,45 @@ pub enum Height {
 
 impl Height {
     ghost use Rattle.std.specs.Prelude.{◌≡◌};
-    ghost use Rattle.vo_words.specs.Height.{number_of};
+    ghost use Rattle.vo_words.specs.Shapes.{height_number};
 
     pub fn number(self) -> u32
-        ensures { result ≡ number_of self }
+        ensures { result ≡ height_number self }
     {
         match self {
             Height::Five => 5,
             Height::Ten => 10,
         }
     }
+}
+
+/// How many levels of trees a key has: one tree whose keys sign versions, or one whose keys sign
+/// the keys of lower trees of the same height, which sign versions.
+#[derive(Clone, Copy, Debug)]
+pub enum Levels {
+    One,
+    Two,
+}
+
+impl Levels {
+    ghost use Rattle.std.specs.Prelude.{◌≡◌};
+    ghost use Rattle.vo_words.specs.Shapes.{levels_number};
+
+    pub fn number(self) -> u32
+        ensures { result ≡ levels_number self }
+    {
+        match self {
+            Levels::One => 1,
+            Levels::Two => 2,
+        }
+    }
+}
+
+/// What a seed doesn't say of its key, so that the words say it each time.
+#[derive(Clone, Copy, Debug)]
+pub struct KeyShape {
+    pub height: Height,
+    pub levels: Levels,
 }
 
 /// A command and its words. A file is given by its name, a peer by its address, and a query by its
@@ -39,7 +68,7 @@ pub struct Commitment<'a> {
     pub seed: &'a str,
     pub address: &'a str,
     pub script: &'a str,
-    pub height: Height,
+    pub shape: KeyShape,
 }
 
 /// The journal that a store loads, and the address where it serves so many connections, one after
@@ -57,12 +86,12 @@ pub struct Service<'a> {
 pub enum Command<'a> {
     Keygen {
         seed: &'a str,
-        height: Height,
+        shape: KeyShape,
     },
     Seal {
         seed: &'a str,
         script: &'a str,
-        height: Height,
+        shape: KeyShape,
     },
     Answer {
         key: &'a str,

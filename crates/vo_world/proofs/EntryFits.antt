@@ -4,18 +4,15 @@ use Rattle.vo_spec.specs.declared.tables.Command.{Command}
 use Rattle.vo_spec.specs.declared.records.Entry.{Entry}
 use Rattle.vo_spec.specs.Batches.{FitsBatch}
 use Rattle.vo_spec.specs.Journals.{FitsEntry, max_proofs}
-use Rattle.vo_spec.specs.LmsSets.{leaves_of}
 use Rattle.vo_spec.specs.Records.{FitsRecord, catalog_bytes, catalog_digest, record_bytes}
-use Rattle.vo_spec.specs.Secret.{Secret, public_of_secret}
+use Rattle.vo_spec.specs.Secret.{Secret, public_of_secret, secret_leaves}
 use Rattle.vo_laws.specs.Sealing.{SignsValidly}
-use Rattle.vo_laws.proofs.SealedLaws.{signatures_short}
-use Rattle.lms_sign.proofs.Keys.{leaves_few}
-use Rattle.lms_sign.proofs.SignatureLaws.{signed_len}
+use Rattle.lms_sign.proofs.SignatureLaws.{signed_short}
 use Rattle.sha2.proofs.Facts256.{length-sha256}
 use Rattle.owner_roots.specs.declared.roots.Roots.{Roots}
 use Rattle.owner_roots.specs.Owners.{first_roots, record_of_roots}
 use Rattle.owner_roots.proofs.OwnedLaws.{next_version}
-use Rattle.round_trips.proofs.SealedJournals.{some_leaf}
+use Rattle.round_trips.proofs.SealedJournals.{secret_leaves_few}
 use Rattle.owner_state.specs.declared.steps.Step.{Step}
 use Rattle.owner_state.specs.Stepping.{AreSteps, AreStepsTo, IsNoStepAt, IsStepTo, StepOf, first_entry, signed_entry}
 use Rattle.owner_state.proofs.OwnerSteps.{proofs_fit, step_parts}
@@ -51,16 +48,16 @@ module _ (key : Secret) (signs : SignsValidly key) where
     proofs = short;
     rec = record_fits roots few;
     signature =
-        omega (arith, signed_len key roots.version (record_bytes (record_of_roots (public_of_secret key) roots)), signatures_short (public_of_secret key));
+        signed_short key roots.version (record_bytes (record_of_roots (public_of_secret key) roots));
   }
 
   pub step_fits : (roots : Roots) (batch : List Command) (proofs : List ℕ) (step : Step) → FitsBatch batch → StepOf key roots batch proofs (Ok step)
       → FitsEntry step.entry
   step_fits roots batch proofs step fits is =
       let parts = step_parts key roots batch proofs step is in
-      let wide : 33554432 < 2 ^ 64 = lit< tt in
+      let wide : 1125899906842624 < 2 ^ 64 = lit< tt in
       let few : step.roots.version < 2 ^ 64 =
-      omega (arith, next_version roots batch proofs step.roots parts.next, parts.left, leaves_few key.lms, wide) in
+      omega (arith, next_version roots batch proofs step.roots parts.next, parts.left, secret_leaves_few key, wide) in
       subst FitsEntry (sym parts.entry)
       (signed_fits step.roots batch proofs few fits (proofs_fit roots batch proofs step.roots parts.next))
 
@@ -108,24 +105,10 @@ module _ (key : Secret) where
       let same : suc index ≡ index + 1 = omega arith in
       stops.not_on front.0 (subst (λ (n : ℕ). AreStepsTo key (take n es) front.0) same front.1)
 
-  -- there are no more entries than leaves
-
-  abbrev step_with : Entry → Roots → Step
-  step_with e roots = record { entry = e; roots = roots }
-
-  version_few : (before : Roots) (es : List Entry) (behind : Roots) → before.version < leaves_of key.lms → AreSteps key before es behind
-      → behind.version < leaves_of key.lms
-  version_few before [] behind few same = subst (λ (r : Roots). r.version < leaves_of key.lms) same few
-  version_few before (e ∷ es) behind few (after, is, rest) =
-      let parts = step_parts key before e.batch.commands e.proofs (step_with e after) is in
-      version_few after es behind (omega (arith, parts.left, next_version before e.batch.commands e.proofs after parts.next)) rest
-
-  last_few : (es : List Entry) (roots : Roots) → AreStepsTo key es roots → roots.version < leaves_of key.lms
-  unfolding AreStepsTo
-  last_few [] roots all = absurd all
-  last_few (e ∷ es) roots all = version_few first_roots es roots (some_leaf key.lms) all.1
-
-  pub few_entries : (es : List Entry) (roots : Roots) → AreStepsTo key es roots → length es < 2 ^ 32
-  few_entries es roots steps =
-      let wide : 33554432 < 2 ^ 32 = lit< tt in
-      omega (arith, count_of key es roots steps, last_few es roots steps, leaves_few key.lms, wide)
+  -- an owner that takes a step has few entries
+  pub few_entries : (es : List Entry) (roots : Roots) (batch : List Command) (proofs : List ℕ) (step : Step) → AreStepsTo key es roots
+      → StepOf key roots batch proofs (Ok step) → step.roots.version < 1048576 → length es < 2 ^ 32
+  few_entries es roots batch proofs step steps is few =
+      let parts = step_parts key roots batch proofs step is in
+      let wide : 1048576 < 2 ^ 32 = lit< tt in
+      omega (arith, count_of key es roots steps, next_version roots batch proofs step.roots parts.next, few, wide)

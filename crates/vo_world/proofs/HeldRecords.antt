@@ -1,18 +1,18 @@
 -- Records, those that a journal holds among them.
-use Rattle.std.proofs.Common.{◌≡◌, ℕ, zero, suc, ◌+◌, ◌<◌, Bool, true, false, if◌then◌else◌, List, [], ◌∷◌, ◌++◌, length, Some, option_map, slice_get, take, get_or, refl, sym, ap, subst, ◌∙◌, append_assoc, arith}
-use Rattle.std.specs.Prelude.{Contains, fold, slice_index_or}
+use Rattle.std.proofs.Common.{◌≡◌, ℕ, ◌+◌, ◌<◌, Bool, true, false, if◌then◌else◌, List, [], ◌∷◌, ◌++◌, length, Some, slice_get, take, get_or, refl, sym, ap, subst, ◌∙◌, append_assoc}
+use Rattle.std.specs.Prelude.{fold}
 use Rattle.std.proofs.lemmas.List.{map-append, take_more}
 use Rattle.std.proofs.lemmas.List.Sums.{fold-append}
 use Rattle.std.specs.List.{AllByRecursion, list_any}
 use Rattle.vo_spec.specs.declared.records.Entry.{Entry}
 use Rattle.vo_spec.specs.declared.records.Record.{Record}
-use Rattle.vo_spec.specs.Journals.{Holds}
 use Rattle.vo_spec.specs.Secret.{Secret}
 use Rattle.owner_roots.specs.declared.roots.Roots.{Roots}
 use Rattle.owner_state.specs.Stepping.{AreStepsTo}
 use Rattle.vo_commands.specs.Committing.{AreOfVersions}
 use Rattle.vo_commands.proofs.OwnerLaws.{versions_of}
 use Rattle.honest_peers.specs.Crashes.{HoldsEach}
+use Rattle.honest_peers.proofs.HeldLaws.{held_at}
 use Rattle.vo_store.specs.Calls.{same_record}
 use Rattle.vo_world.specs.Steps.{gain_records, with_record}
 use Rattle.vo_world.specs.WorldModel.{records_of}
@@ -22,18 +22,6 @@ use Rattle.vo_world.specs.WorldModel.{records_of}
 pub all_more : {X : Type 0} (P : X → Type 0) (xs : List X) (x : X) → AllByRecursion P xs → P x → AllByRecursion P (xs ++ x ∷ [])
 all_more P [] x all last = (last, tt)
 all_more P (y ∷ xs) x all last = (all.0, all_more P xs x all.1 last)
-
-pub each : {X : Type 0} (P Q : X → Type 0) (xs : List X) → ((x : X) → P x → Q x) → AllByRecursion P xs → AllByRecursion Q xs
-each P Q [] step all = tt
-each P Q (x ∷ xs) step all = (step x all.0, each P Q xs step all.1)
-
-pub one_of : {X : Type 0} (P : X → Type 0) (xs : List X) (x : X) → AllByRecursion P xs → Contains xs x → P x
-one_of {X = X} P xs x all one = at xs all one.0 one.1 one.2
-  where
-    at : (ys : List X) → AllByRecursion P ys → (k : ℕ) → k < length ys → slice_index_or ys k x ≡ x → P x
-    at [] all k within is = absurd (omega (arith, within))
-    at (y ∷ ys) all zero within is = subst P is all.0
-    at (y ∷ ys) all (suc k) within is = at ys all.1 k (omega (arith, within)) is
 
 -- What is gained.
 
@@ -75,23 +63,16 @@ got_behind : (front : List Entry) (e : Entry) (es : List Entry) → slice_get (f
 got_behind [] e es = refl
 got_behind (f ∷ front) e es = got_behind front e es
 
-held_at : (es : List Entry) (e : Entry) (v : ℕ) → slice_get es v ≡ Some e → e.rec.version ≡ v → Holds es e.rec
-unfolding Holds
-held_at es e v found is = ap (option_map (λ (x : Entry). x.rec)) (subst (λ (n : ℕ). slice_get es n ≡ Some e) (sym is) found)
-
 own_behind : (front es : List Entry) → AreOfVersions (front ++ es) → HoldsEach (front ++ es) (records_of es)
 own_behind front [] are = tt
 own_behind front (e ∷ es) are =
     let found = got_behind front e es in
     let same = append_assoc front (e ∷ []) es in (
-      held_at (front ++ e ∷ es) e (length front) found (are (length front) e found),
+      held_at (front ++ e ∷ es) e.rec e
+          (subst (λ (n : ℕ). slice_get (front ++ e ∷ es) n ≡ Some e) (sym (are (length front) e found)) found) refl,
       subst (λ (all : List Entry). HoldsEach all (records_of es)) same
           (own_behind (front ++ e ∷ []) es (subst AreOfVersions (sym same) are)),
     )
 
 pub own_held : (key : Secret) (es : List Entry) (roots : Roots) → AreStepsTo key es roots → HoldsEach es (records_of es)
 own_held key es roots steps = own_behind [] es (versions_of key es roots steps)
-
-pub one_held : (es : List Entry) (a b : Record) → Holds es a → Holds es b → a.version ≡ b.version → a ≡ b
-unfolding Holds
-one_held es a b first second same = cc

@@ -57,13 +57,13 @@ module _ (w : WorldModel) (clients : List Client) (i : ℕ) (query : QueryText) 
   pub trust_more : (new : Client) → new.key ≡ was.key → AllByRecursion (Trusts (public_of_secret w.key)) (slice_set clients i new)
   trust_more new key = all_set (Trusts (public_of_secret w.key)) clients i new trust (key ∙ trusts)
 
-  pub accepted : (new : Client) (answer : Answer) (after : WorldModel)
+  pub acceptance : (new : Client) (answer : Answer) (after : WorldModel)
       → (Ok answer ≡ Err Memory) ⊎ CheckOf was.key was.least (query_of query) fed (Ok answer) → new.least ≡ answer.version
       → after.key ≡ w.key → after.roots ≡ w.roots → after.entries ≡ w.entries → after.drive ≡ w.drive → after.since ≡ now w.drive
       → after.leasts ≡ map least_of (slice_set clients i new) → after.accepted ≡ w.accepted ++ reply_of i query bytes answer.version ∷ []
       → after.released ≡ gain_records w.released (records_of w.entries)
       → Receives w i query bytes (said.Accepted answer) after
-  accepted new answer after is least key roots entries drive since later more released =
+  acceptance new answer after is least key roots entries drive since later more released =
       let set : after.leasts ≡ slice_set w.leasts i answer.version =
       later ∙ map-set least_of clients i new ∙ ap (λ (ns : List ℕ). slice_set ns i new.least) (sym leasts) ∙ ap (slice_set w.leasts i) least in (
         Ok answer,
@@ -71,13 +71,13 @@ module _ (w : WorldModel) (clients : List Client) (i : ℕ) (query : QueryText) 
         (refl, same_model _ _ key roots entries drive since set more released),
       )
 
-  pub refused : (new : Client) (fault : CheckFault) (after : WorldModel) → fault ≢ Memory
+  pub refusal : (new : Client) (fault : CheckFault) (after : WorldModel) → fault ≢ Memory
       → IsErrOf {T = Answer} (Err fault) Memory ⊎ CheckOf was.key was.least (query_of query) fed (Err fault) → new ≡ was
       → after.key ≡ w.key → after.roots ≡ w.roots → after.entries ≡ w.entries → after.drive ≡ w.drive → after.since ≡ now w.drive
       → after.leasts ≡ map least_of (slice_set clients i new) → after.accepted ≡ w.accepted
       → after.released ≡ gain_records w.released (records_of w.entries)
       → Receives w i query bytes (said.Refused fault) after
-  refused new fault after other is same_client key roots entries drive since later more released =
+  refusal new fault after other is same_client key roots entries drive since later more released =
       let set : after.leasts ≡ w.leasts =
       later ∙ ap (λ (c : Client). map least_of (slice_set clients i c)) (same_client ∙ here) ∙ ap (map least_of) (set-get_or clients i was) ∙ sym leasts in (
         Err fault,

@@ -21,6 +21,7 @@ use Rattle.honest_peers.specs.Crashes.{HoldsEach}
 use Rattle.honest_peers.proofs.Judged.{accepts_reply, judged}
 use Rattle.honest_peers.proofs.OwnedSteps.{journal_owned}
 use Rattle.honest_peers.proofs.Readings.{one_owned}
+use Rattle.honest_peers.proofs.HeldLaws.{each, one_held, one_of}
 use Rattle.vo_world.specs.declared.events.AcceptedReply.{AcceptedReply}
 use Rattle.vo_world.specs.declared.events.Event.{Event}
 use Rattle.vo_world.specs.declared.events.Said.{Said}
@@ -30,7 +31,7 @@ use Rattle.vo_world.specs.Soundness.{HoldsReleased, IsAudited, IsSound, released
 use Rattle.vo_world.specs.Steps.{start}
 use Rattle.vo_world.specs.WorldModel.{WorldModel, records_of}
 use Rattle.vo_world.proofs.Disks.{seen_is}
-use Rattle.vo_world.proofs.HeldRecords.{each, gained_all, one_held, one_of, own_held}
+use Rattle.vo_world.proofs.HeldRecords.{gained_all, own_held}
 use Rattle.vo_world.proofs.RunLaws.{run_keeps}
 use Rattle.vo_world.proofs.StepLaws.{start_keeps}
 

@@ -26,6 +26,7 @@ use Rattle.owner_journal.specs.Resting.{HoldsWith}
 use Rattle.owner_journal.proofs.RestLaws.{rest_holds}
 use Rattle.honest_peers.specs.Crashes.{HoldsEach}
 use Rattle.honest_peers.proofs.CrashLaws.{holds_more}
+use Rattle.honest_peers.proofs.HeldLaws.{each}
 use Rattle.honest_peers.proofs.Judged.{accepts_reply}
 use Rattle.vo_world.specs.declared.events.AcceptedReply.{AcceptedReply}
 use Rattle.vo_world.specs.declared.events.Event.{Event}
@@ -36,7 +37,7 @@ use Rattle.vo_world.specs.Steps.{CommitGives, Commits, Crashes, FitsEvent, Recei
 use Rattle.vo_world.specs.WorldModel.{WorldModel, records_of}
 use Rattle.vo_world.proofs.Disks.{empty_rests, entry_leaves, entry_rests, found_left, found_rests, left_now}
 use Rattle.vo_world.proofs.EntryFits.{first_fits, some_entry, step_fits, step_leads}
-use Rattle.vo_world.proofs.HeldRecords.{all_more, each, gained_all, own_held}
+use Rattle.vo_world.proofs.HeldRecords.{all_more, gained_all, own_held}
 
 -- The beginning.
 
@@ -134,13 +135,14 @@ module _ (w : WorldModel) (keeps : Keeps w) (began : w.since ≡ now w.drive) (b
 
 -- The owner comes back.
 
-abbrev pub reopened : WorldModel → List ℕ → List Entry → Roots → WorldModel
-reopened w image es roots = record w { roots = roots; entries = es; drive = sync_now (fresh image); since = 0 }
+-- the world on what a stop left
+abbrev pub world_on : WorldModel → List ℕ → List Entry → Roots → WorldModel
+world_on w image es roots = record w { roots = roots; entries = es; drive = sync_now (fresh image); since = 0 }
 
 module _ (w : WorldModel) (keeps : Keeps w) (image : List ℕ) where
-  reopened_keeps : (es : List Entry) (roots : Roots) → LeftSince w.drive w.since image → IsJournal image es → AreStepsTo w.key es roots
-      → Keeps (reopened w image es roots)
-  reopened_keeps es roots left is steps =
+  world_on_keeps : (es : List Entry) (roots : Roots) → LeftSince w.drive w.since image → IsJournal image es → AreStepsTo w.key es roots
+      → Keeps (world_on w image es roots)
+  world_on_keeps es roots left is steps =
       let safe = keeps.left image left in
       let holds = subst (λ (xs : List Entry). HoldsEach xs w.released) (one_journal image safe.entries es safe.is is) safe.holds in
       record {
@@ -155,7 +157,7 @@ module _ (w : WorldModel) (keeps : Keeps w) (image : List ℕ) where
       }
 
   pub crash_keeps : (says : Said) (after : WorldModel) → Crashes w image says after → Keeps after
-  crash_keeps says after (inl (left, es, is, roots, steps, said, same)) = subst Keeps (sym same) (reopened_keeps es roots left is steps)
+  crash_keeps says after (inl (left, es, is, roots, steps, said, same)) = subst Keeps (sym same) (world_on_keeps es roots left is steps)
   crash_keeps says after (inr (never, said, same)) = subst Keeps (sym same) keeps
 
 -- A client gets a reply.
@@ -205,8 +207,8 @@ abbrev pub reply_of : ℕ → QueryText → List ℕ → ℕ → AcceptedReply
 reply_of client query bytes version = record { client = client; query = query; bytes = bytes; version = version }
 
 -- the world behind a reply that a client accepted
-abbrev pub accepting : WorldModel → ℕ → QueryText → List ℕ → ℕ → WorldModel
-accepting w client query bytes version = record w {
+abbrev pub with_reply : WorldModel → ℕ → QueryText → List ℕ → ℕ → WorldModel
+with_reply w client query bytes version = record w {
   leasts = slice_set w.leasts client version;
   accepted = w.accepted ++ reply_of client query bytes version ∷ [];
 }
@@ -215,8 +217,8 @@ module _ (w : WorldModel) (keeps : Keeps w) (client : ℕ) (query : QueryText) (
   abbrev Checks : Result Answer CheckFault → Type 0
   Checks answer = CheckOf (public_of_secret w.key) (slice_index w.leasts client) (query_of query) bytes answer
 
-  accepting_keeps : (answer : Answer) → Checks (Ok answer) → Keeps (accepting w client query bytes answer.version)
-  accepting_keeps answer checked =
+  with_reply_keeps : (answer : Answer) → Checks (Ok answer) → Keeps (with_reply w client query bytes answer.version)
+  with_reply_keeps answer checked =
       let known = accepts_reply (public_of_secret w.key) (slice_index w.leasts client) (query_of query) bytes answer checked in
       let reply = reply_of client query bytes answer.version in
       record {
@@ -234,7 +236,7 @@ module _ (w : WorldModel) (keeps : Keeps w) (client : ℕ) (query : QueryText) (
   pub receive_keeps : (answer : Result Answer CheckFault) (says : Said) (after : WorldModel) → Checks answer
       → ReceiveGives client query bytes answer w says after → Keeps after
   receive_keeps (Err fault) says after checked gives = subst Keeps (sym gives.1) keeps
-  receive_keeps (Ok answer) says after checked gives = subst Keeps (sym gives.1) (accepting_keeps answer checked)
+  receive_keeps (Ok answer) says after checked gives = subst Keeps (sym gives.1) (with_reply_keeps answer checked)
 
 -- Any event.
 

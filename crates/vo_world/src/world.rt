@@ -64,14 +64,14 @@ impl World {
     }
 
     /// The replies that clients accepted, oldest first.
-    pub fn accepted(&self) -> &[AcceptedReply]
+    pub fn accepted_replies(&self) -> &[AcceptedReply]
         ensures { result.now ≡ self.now.accepted }
     {
         &self.accepted
     }
 
     /// The records of which anybody may know since the last event began, oldest first.
-    pub fn released(&self) -> &[Record]
+    pub fn released_records(&self) -> &[Record]
         ensures { result.now ≡ self.now.released }
     {
         &self.released

@@ -8,7 +8,7 @@ use Rattle.lm_ots.proofs.signing.sign_onto.Goals as goal
 
 pub loop-i-init : goal.loop-i-init
 unfolding join_pieces
-loop-i-init c = rw (append-nil, ← c.secret-random.ensures) c.in_ok-signed.ensures
+loop-i-init c = rw (append-nil, ← c.randomizer-random.ensures) c.in_ok-signed.ensures
 
 pub loop-i-preserved : goal.loop-i-preserved
 loop-i-preserved c =
@@ -25,6 +25,6 @@ returns c =
     let code = u32_bytes (ots_code_of c.args.ots) in
     let values = join_pieces (signed_value c.args.id.now c.args.q c.args.ots c.args.seed.now digits) (count_of c.args.ots) in
     let all : c.loop-i.i ≡ count_of c.args.ots = omega arith in
-    let made = rw (all, c.digits_of-digits.ensures, c.secret-random.ensures) at c.loop-i.invariant in
+    let made = rw (all, c.digits_of-digits.ensures, c.randomizer-random.ensures) at c.loop-i.invariant in
     rw (made, append_assoc (c.args.bytes.items ++ code) random values, append_assoc c.args.bytes.items code (random ++ values))
     (ap (λ rest. c.args.bytes.items ++ rest) (sym (append_assoc code random values)))

@@ -1,10 +1,20 @@
-use Rattle.std.proofs.Common.{sym, ◌∙◌}
-use Rattle.lms_sign.proofs.Keys.{lms_valid-public_bytes}
+use Rattle.std.proofs.Common.{sym, ap, ◌∙◌}
+use Rattle.vo_spec.specs.Keys.{key_bytes, valid_by}
+use Rattle.lms_sign.proofs.Keys.{valid-key, valid_by_two}
 use Rattle.lms_sign.proofs.verifying.verify.Goals as goal
 
-pub returns : goal.returns
-returns c =
+pub returns-in-One : goal.returns-in-One
+returns-in-One c =
+    let told = valid-key c.key.inside.levels c.key.inside.tree c.args.message.now c.args.signature.now c.key.invariant in
     rw (← c.key.view_is)
-    (c.is_valid_under.ensures
-    ∙ sym (lms_valid-public_bytes c.key.inside.lms c.key.inside.ots c.key.inside.id c.key.inside.root
-    c.args.message.now c.args.signature.now c.key.invariant))
+    (c.verify_tree.ensures
+    ∙ sym (told ∙ ap (λ levels. valid_by levels (key_bytes levels c.key.inside.tree) c.args.message.now c.args.signature.now) c.in-One.is))
+
+pub returns-in-Two : goal.returns-in-Two
+returns-in-Two c =
+    let told = valid-key c.key.inside.levels c.key.inside.tree c.args.message.now c.args.signature.now c.key.invariant in
+    rw (← c.key.view_is)
+    (c.verify_pair.ensures
+    ∙ sym (told
+    ∙ ap (λ levels. valid_by levels (key_bytes levels c.key.inside.tree) c.args.message.now c.args.signature.now) c.in-Two.is
+    ∙ valid_by_two c.key.inside.tree c.args.message.now c.args.signature.now))

@@ -1,6 +1,6 @@
 use Rattle.std.proofs.Common.{◌≡◌, ◌≤◌, ℕ, List, length, sym, ap, ◌∙◌, subst}
 use Rattle.vo_spec.specs.Journals.{max_proofs, max_signature}
-use Rattle.vo_spec.specs.Lms.{key_signature_len, leaf_of, lms_valid}
+use Rattle.vo_spec.specs.Keys.{key_signature_len, leaf_of, lms_valid}
 use Rattle.vo_spec.specs.Secret.{public_of_secret, lms_signature}
 use Rattle.vo_laws.proofs.SealedLaws.{signatures_short}
 use Rattle.owner_roots.specs.Owners.{record_of_roots}

@@ -2,10 +2,10 @@ use Rattle.std.proofs.Common.{◌≡◌, ℕ, ◌+◌, ◌++◌, true, List, Ok,
 use Rattle.std.specs.Prelude.{◌≢◌}
 use Rattle.vo_spec.specs.declared.tables.Command.{Command}
 use Rattle.vo_spec.specs.declared.records.Entry.{Entry}
-use Rattle.vo_spec.specs.LmsSets.{leaves_of}
 use Rattle.vo_spec.specs.Journals.{slot}
 use Rattle.vo_spec.specs.Replies.{proofs_bytes}
 use Rattle.vo_spec.specs.Honest.{Stored, honest_proofs, work_all}
+use Rattle.vo_spec.specs.Secret.{secret_leaves}
 use Rattle.stored_tables.specs.Working.{work_from}
 use Rattle.owner_roots.specs.declared.owner_fault.OwnerFault.TheVariants as owner
 use Rattle.owner_roots.specs.Owners.{honest_roots}
@@ -33,13 +33,13 @@ unreachable-requires c =
     ∙ ap (λ (bytes : List ℕ). bytes ++ proofs_bytes (honest_proofs c.as_slice.result.now c.replace-tables.result)) c.new-proofs.ensures.items
     ∙ ap (λ (xs : List Command). proofs_bytes (honest_proofs xs c.replace-tables.result)) c.as_slice.ensures
     ∙ ap (λ (ss : List Stored). proofs_bytes (honest_proofs batch ss)) c.replace-tables.ensures.value in
-    let left = left_over c.is_spent.result (leaves_of before.key.lms) before.roots.version c.is_spent.ensures.1 c.if-is_spent.false in
+    let left = left_over c.is_spent.result (secret_leaves before.key) before.roots.version c.is_spent.ensures.spent.1 c.if-is_spent.false in
     let known : c.step.result ≢ Err owner.Memory = λ memory.
     let is : c.in-Err.fault ≡ owner.Memory = cc in
     let yes : c.is_want_of_memory.result ≡ true = c.is_want_of_memory.ensures.1 is in
     let other = c.if-is_want_of_memory.false in
     absurd (cc) in
-    let gives = sealed_step before stored after batch c.deref.result.now c.step.result c.requires.owner.roots r done proofs left c.step.ensures.answer known in
+    let gives = sealed_step before stored after batch c.deref.result.now c.step.result c.requires.owner.roots r done proofs left (rw c.prepare.ensures at c.step.ensures.answer) known in
     let refused = c.in-Err.is in
     absurd (cc)
 
@@ -59,9 +59,9 @@ returns c =
     ∙ ap (λ (bytes : List ℕ). bytes ++ proofs_bytes (honest_proofs c.as_slice.result.now c.replace-tables.result)) c.new-proofs.ensures.items
     ∙ ap (λ (xs : List Command). proofs_bytes (honest_proofs xs c.replace-tables.result)) c.as_slice.ensures
     ∙ ap (λ (ss : List Stored). proofs_bytes (honest_proofs batch ss)) c.replace-tables.ensures.value in
-    let left = left_over c.is_spent.result (leaves_of before.key.lms) before.roots.version c.is_spent.ensures.1 c.if-is_spent.false in
+    let left = left_over c.is_spent.result (secret_leaves before.key) before.roots.version c.is_spent.ensures.spent.1 c.if-is_spent.false in
     let known : c.step.result ≢ Err owner.Memory = λ memory. let is = c.in-Ok-step.is in absurd (cc) in
-    let gives = sealed_step before stored after batch c.deref.result.now c.step.result c.requires.owner.roots r done proofs left c.step.ensures.answer known in
+    let gives = sealed_step before stored after batch c.deref.result.now c.step.result c.requires.owner.roots r done proofs left (rw c.prepare.ensures at c.step.ensures.answer) known in
     let next : Step = step_to before.key batch honest (honest_roots (before.roots.version + 1) after) in
     let step : c.in-Ok-step.step ≡ next = step_is c.in-Ok-step.step next (sym c.in-Ok-step.is ∙ gives) in (
       left,
@@ -69,5 +69,5 @@ returns c =
       c.in_ok-put_slot-in-Ok-step.ensures.ok
           ∙ ap (λ (e : Entry). c.args.sealed.now.slots.items ++ slot e)
           (ap (λ (s : Step). s.entry) step ∙ entry_behind before.key (before.roots.version + 1) stored after batch done),
-      record { key = c.advance.ensures.key; roots = c.advance.ensures.roots ∙ ap (λ (s : Step). s.roots) step },
+      record { key = c.advance.ensures.key ∙ ap (λ (h : Held). h.key) c.prepare.ensures; roots = c.advance.ensures.roots ∙ ap (λ (s : Step). s.roots) step },
     )

@@ -19,3 +19,9 @@ returns-in-Ask-clause-files g c = rw c.in-Ask.is c.ask.ensures.files
 
 pub returns-in-Meet-clause-files : goal.returns-in-Meet-clause-files
 returns-in-Meet-clause-files g c = rw c.in-Meet.is c.meet.ensures.files.leaves
+
+pub returns-in-Keygen-clause-files : goal.returns-in-Keygen-clause-files
+returns-in-Keygen-clause-files g c = rw c.in-Keygen.is c.keygen.ensures.files.leaves
+
+pub returns-in-Audit-clause-files : goal.returns-in-Audit-clause-files
+returns-in-Audit-clause-files g c = rw c.in-Audit.is c.audit.ensures.files.leaves

@@ -1,8 +1,17 @@
-use Rattle.std.proofs.Common.{sym}
-use Rattle.lms_sign.proofs.Keys.{key_signature_len-public_bytes}
+use Rattle.std.proofs.Common.{sym, ap, ◌∙◌}
+use Rattle.vo_spec.specs.Lms.{tree_signature_len}
+use Rattle.vo_spec.specs.Keys.{signature_len_at}
+use Rattle.lms_sign.proofs.Keys.{signature_len-key}
 use Rattle.lms_sign.proofs.public_key.PublicKey.signature_len.Goals as goal
 
-pub returns : goal.returns
-returns c =
-    rw (← c.self.view_is, c.signature_len.ensures)
-    (sym (key_signature_len-public_bytes c.self.inside.lms c.self.inside.ots c.self.inside.id c.self.inside.root))
+pub returns-in-One : goal.returns-in-One
+returns-in-One c =
+    let told = signature_len-key c.self.inside.levels c.self.inside.tree c.self.invariant in
+    rw (← c.self.view_is, c.signature_len-len.ensures.value)
+    (sym (told ∙ ap (λ levels. signature_len_at levels (tree_signature_len c.self.inside.tree)) c.in-One.is))
+
+pub returns-in-Two : goal.returns-in-Two
+returns-in-Two c =
+    let told = signature_len-key c.self.inside.levels c.self.inside.tree c.self.invariant in
+    rw (← c.self.view_is, c.signature_len-len.ensures.value)
+    (sym (told ∙ ap (λ levels. signature_len_at levels (tree_signature_len c.self.inside.tree)) c.in-Two.is))

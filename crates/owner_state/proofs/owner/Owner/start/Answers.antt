@@ -1,4 +1,4 @@
-use Rattle.std.proofs.Common.{◌≤◌, ℕ, List, [], length, sym, ap, ◌∙◌, subst}
+use Rattle.std.proofs.Common.{◌≡◌, ◌≤◌, ℕ, List, [], length, sym, ap, ◌∙◌, subst}
 use Rattle.vo_spec.specs.declared.tables.Command.{Command}
 use Rattle.vo_spec.specs.Batches.{FitsBatch}
 use Rattle.vo_spec.specs.Journals.{max_proofs}
@@ -20,12 +20,13 @@ sign_entry-requires-clause-proofs c = subst (λ (bytes : List ℕ). length bytes
 
 pub returns-clause-first : goal.returns-clause-first
 returns-clause-first c =
+    let kept : c.keep_tree_of.new.self ≡ c.args.key.now = c.keep_tree_of.ensures ∙ c.in_ok-own.ensures.value in
     starts (public_of_secret c.args.key.now) c.args.key.now c.in_ok-entry.entry
-    (c.in_ok-entry.ensures.value
+    ((rw kept at c.in_ok-entry.ensures.value)
     ∙ ap (λ (r : Roots). signed_entry c.args.key.now r c.new.result c.in_ok-proofs.proofs.items) c.first_roots-roots.ensures.value
     ∙ ap (λ (batch : List Command). signed_entry c.args.key.now first_roots batch c.in_ok-proofs.proofs.items) c.new.ensures
     ∙ ap (signed_entry c.args.key.now first_roots []) c.in_ok-proofs.ensures)
-    (subst (λ (r : Roots). IsSignedFor (public_of_secret c.args.key.now) r c.in_ok-entry.entry) c.first_roots-roots.ensures.value c.in_ok-entry.ensures.signed)
+    (subst (λ (r : Roots). IsSignedFor (public_of_secret c.args.key.now) r c.in_ok-entry.entry) c.first_roots-roots.ensures.value (rw kept at c.in_ok-entry.ensures.signed))
 
 pub returns-clause-signs : goal.returns-clause-signs
 returns-clause-signs c =

@@ -27,7 +27,9 @@ invariant_of-self c =
 pub append_entry-requires-clause-count : goal.append_entry-requires-clause-count
 append_entry-requires-clause-count c =
     let w = model_of c.self.inside in
-    few_entries w.key w.entries w.roots c.self.invariant.keeps.steps
+    let is = step_given_by c.self.inside.owner.key c.self.inside.owner.roots c.args.batch.now.commands c.args.proofs.now c.step.result c.in-Ok.step c.in-Ok.is c.step.ensures.answer in
+    let own = subst (λ (k : Secret). StepOf k c.self.inside.owner.roots c.args.batch.now.commands c.args.proofs.now (Ok c.in-Ok.step)) c.self.invariant.own_key is in
+    few_entries w.key w.entries w.roots c.args.batch.now.commands c.args.proofs.now c.in-Ok.step c.self.invariant.keeps.steps own c.in-Ok.ensures.few
 
 pub invariant_of-self-2 : goal.invariant_of-self-2
 invariant_of-self-2 c =

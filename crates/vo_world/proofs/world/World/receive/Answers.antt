@@ -8,7 +8,7 @@ use Rattle.vo_world.specs.Steps.{gain_records}
 use Rattle.vo_world.specs.Viewing.{model_of}
 use Rattle.vo_world.specs.WorldModel.{WorldModel, records_of}
 use Rattle.vo_world.proofs.Models.{gained_is}
-use Rattle.vo_world.proofs.Receipts.{accepted, refused, trust_more}
+use Rattle.vo_world.proofs.Receipts.{acceptance, refusal, trust_more}
 use Rattle.vo_world.proofs.StepLaws.{receives_keep, reply_of}
 use Rattle.vo_world.proofs.world.World.receive.Goals as goal
 
@@ -19,7 +19,7 @@ invariant_of-self-in-Ok c =
     let clients = c.self.inside.clients.items in
     record {
       keeps = receives_keep w c.args.reply.client c.args.reply.query c.args.reply.bytes (said.Accepted c.in-Ok.answer) _ c.self.invariant.keeps within
-          (accepted w clients c.args.reply.client c.args.reply.query c.args.reply.bytes _ c.index_mut-client.result.now refl within c.index_mut-client.ensures.value c.self.invariant.trust c.as_slice.ensures c.check.new.self
+          (acceptance w clients c.args.reply.client c.args.reply.query c.args.reply.bytes _ c.index_mut-client.result.now refl within c.index_mut-client.ensures.value c.self.invariant.trust c.as_slice.ensures c.check.new.self
           c.in-Ok.answer _ c.in-Ok.ensures.answers c.in-Ok.ensures.least refl refl refl refl c.moment-moment.ensures refl
           ((rw c.unwrap.ensures at c.push.ensures.items) ∙ ap (λ xs. xs ++ reply_of c.args.reply.client c.args.reply.query c.args.reply.bytes c.in-Ok.answer.version ∷ []) c.reserve.ensures.items) (sym (gained_is _ _ _ _ _ c.deref.ensures.value c.entries.ensures (c.in_ok-released.ensures {u = tt}))));
       own_key = c.self.invariant.own_key;
@@ -34,7 +34,7 @@ invariant_of-self-in-Err c =
     let clients = c.self.inside.clients.items in
     record {
       keeps = receives_keep w c.args.reply.client c.args.reply.query c.args.reply.bytes (said.Refused c.in-Err.fault) _ c.self.invariant.keeps within
-          (refused w clients c.args.reply.client c.args.reply.query c.args.reply.bytes _ c.index_mut-client.result.now refl within c.index_mut-client.ensures.value c.self.invariant.trust c.as_slice.ensures c.check.new.self
+          (refusal w clients c.args.reply.client c.args.reply.query c.args.reply.bytes _ c.index_mut-client.result.now refl within c.index_mut-client.ensures.value c.self.invariant.trust c.as_slice.ensures c.check.new.self
           c.in-Err.fault _ (λ e. search rules) c.in-Err.ensures.answers c.in-Err.ensures.kept refl refl refl refl c.moment-moment.ensures refl c.reserve.ensures.items (sym (gained_is _ _ _ _ _ c.deref.ensures.value c.entries.ensures (c.in_ok-released.ensures {u = tt}))));
       own_key = c.self.invariant.own_key;
       works = c.self.invariant.works;
@@ -46,7 +46,7 @@ returns-in-Ok-clause-ok c =
     let view = c.self.view_is in
     let clients = c.self.inside.clients.items in
     let trust = subst (λ (v : WorldModel). AllByRecursion (Trusts (public_of_secret v.key)) clients) view c.self.invariant.trust in
-    accepted c.args.self.now clients c.args.reply.client c.args.reply.query c.args.reply.bytes _ c.index_mut-client.result.now (ap (λ (v : WorldModel). v.leasts) (sym view)) c.requires
+    acceptance c.args.self.now clients c.args.reply.client c.args.reply.query c.args.reply.bytes _ c.index_mut-client.result.now (ap (λ (v : WorldModel). v.leasts) (sym view)) c.requires
     c.index_mut-client.ensures.value trust c.as_slice.ensures c.check.new.self c.in-Ok.answer _ c.in-Ok.ensures.answers c.in-Ok.ensures.least
     (ap (λ (v : WorldModel). v.key) view) (ap (λ (v : WorldModel). v.roots) view) (ap (λ (v : WorldModel). v.entries) view) (ap (λ (v : WorldModel). v.drive) view) (c.moment-moment.ensures ∙ ap (λ (v : WorldModel). now v.drive) view) refl
     ((rw c.unwrap.ensures at c.push.ensures.items) ∙ ap (λ xs. xs ++ reply_of c.args.reply.client c.args.reply.query c.args.reply.bytes c.in-Ok.answer.version ∷ []) (c.reserve.ensures.items ∙ ap (λ (v : WorldModel). v.accepted) view)) (sym (gained_is _ _ _ _ _ c.deref.ensures.value c.entries.ensures (c.in_ok-released.ensures {u = tt})) ∙ ap (λ (v : WorldModel). gain_records v.released (records_of v.entries)) view)
@@ -56,7 +56,7 @@ returns-in-Err-clause-ok c =
     let view = c.self.view_is in
     let clients = c.self.inside.clients.items in
     let trust = subst (λ (v : WorldModel). AllByRecursion (Trusts (public_of_secret v.key)) clients) view c.self.invariant.trust in
-    refused c.args.self.now clients c.args.reply.client c.args.reply.query c.args.reply.bytes _ c.index_mut-client.result.now (ap (λ (v : WorldModel). v.leasts) (sym view)) c.requires
+    refusal c.args.self.now clients c.args.reply.client c.args.reply.query c.args.reply.bytes _ c.index_mut-client.result.now (ap (λ (v : WorldModel). v.leasts) (sym view)) c.requires
     c.index_mut-client.ensures.value trust c.as_slice.ensures c.check.new.self c.in-Err.fault _ (λ e. search rules) c.in-Err.ensures.answers c.in-Err.ensures.kept
     (ap (λ (v : WorldModel). v.key) view) (ap (λ (v : WorldModel). v.roots) view) (ap (λ (v : WorldModel). v.entries) view) (ap (λ (v : WorldModel). v.drive) view) (c.moment-moment.ensures ∙ ap (λ (v : WorldModel). now v.drive) view) refl
     (c.reserve.ensures.items ∙ ap (λ (v : WorldModel). v.accepted) view) (sym (gained_is _ _ _ _ _ c.deref.ensures.value c.entries.ensures (c.in_ok-released.ensures {u = tt})) ∙ ap (λ (v : WorldModel). gain_records v.released (records_of v.entries)) view)
