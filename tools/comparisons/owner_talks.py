@@ -24,7 +24,7 @@ class OwnerTalk:
     def words(self):
         """The call of run_lines, its names and numbers."""
         if self.failure:
-            return ["fail_own", *map(str, self.failure)]
+            return ["fail", "disk", *map(str, self.failure), "own"]
         if self.crash:
             moment, lost = self.crash
             return ["crash_own", str(moment), f"{lost[:1].hex()}*{len(lost)}"]

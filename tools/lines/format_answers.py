@@ -3,7 +3,6 @@
 A row is the word of a call and its byte strings; those that a line shares with the bytes kept last are spelled by their
 places there.
 """
-import functools
 import re
 
 from comparisons.memory_runs import image_with
@@ -24,7 +23,6 @@ from reference.sql import parse_query
 from reference.store import load_journal
 from reference.tree import attr_digest, cell_digest, hide, row_digest
 from reference.values import Cursor, take_value, value_bytes
-from reference.world import World
 
 
 # -- the calls, as the other implementation answers them
@@ -104,7 +102,7 @@ class Calls:
     """The calls by their words; a call answers with its line."""
 
     def __init__(self):
-        self.kept, self.made, self.begun = b"", None, None
+        self.kept, self.made = b"", None
 
     def keep(self, data):
         self.kept = data
@@ -332,42 +330,6 @@ class Calls:
             return forms.form("BadJournal", str(fault.index))
         return store.answer(parse_query(query.decode())).hex()
 
-    # worlds
-
-    def world(self, clients):
-        self.begun = World(self.made, number(clients))
-        return self.come_to()
-
-    def come_to(self):
-        """What the world is, whose journal is kept."""
-        self.kept = bytes(self.begun.disk.data)
-        released = "".join(f" {rec.version}" for rec in self.begun.released)
-        accepted = "".join(f" {client}:{version}" for client, _, _, version in self.begun.accepted)
-        return f"journal {len(self.kept)} entries {len(self.begun.journal.entries())} released{released} accepted{accepted}"
-
-    def commit(self, batch, proofs):
-        return f"{said_form(*self.begun.commit(read_batch(batch), proofs))} {self.come_to()}"
-
-    def crash(self, image):
-        return f"{said_form(*self.begun.crash(image))} {self.come_to()}"
-
-    def receive(self, client, query, data):
-        if number(client) >= len(self.begun.clients):
-            return "no such line"
-        return f"{said_form(*self.begun.receive(number(client), query_of(query.decode()), data))} {self.come_to()}"
-
-
-# parsed once of the same text
-query_of = functools.lru_cache(maxsize=256)(parse_query)
-
-
-def said_form(word, *about):
-    """What is said of an event of a world."""
-    shown = {"Denied": owner_fault_form, "Refused": forms.check_fault, "Accepted": forms.answer}
-    if word in shown:
-        return shown[word](*about)
-    return forms.form(word.lower(), *map(str, about)) if about else word
-
 
 def roots_text(roots):
     return f"{roots.version} {catalog_text(roots.catalog)}"
@@ -403,16 +365,17 @@ def digits(data):
     return "+".join(piece for piece in [*pieces, data[at:].hex()] if piece) or "*0"
 
 
-def pieces_of(data, kept):
-    """A byte string's pieces: the kept bytes in it, or what it begins and ends with as they do, by the places there."""
+def pieces_of(data, kept, at=0):
+    """A byte string's pieces: the kept bytes in it, or what it begins and ends with as they do, by the places there; they begin at
+    a place of those that are kept."""
     if len(kept) >= 64 and kept in data:
         front, back = data.split(kept, 1)
-        return "+".join([*some_digits(front), f"0..{len(kept)}", *some_digits(back)])
+        return "+".join([*some_digits(front), f"{at}..{at + len(kept)}", *some_digits(back)])
     front = shared(data, kept)
     back = shared(data[front:][::-1], kept[front:][::-1])
     if front + back < 64:
         return digits(data)
-    ends = [f"0..{front}"] * (front > 0), [f"{len(kept) - back}..{len(kept)}"] * (back > 0)
+    ends = [f"{at}..{at + front}"] * (front > 0), [f"{at + len(kept) - back}..{at + len(kept)}"] * (back > 0)
     return "+".join([*ends[0], *some_digits(data[front:len(data) - back]), *ends[1]])
 
 
@@ -427,9 +390,9 @@ def some_digits(data):
     return [digits(data)] if data else []
 
 
-def lines_with_answers(rows):
+def lines_with_answers(rows, calls=None):
     """The line of each row, a word and its byte strings, and the answer due."""
-    calls = Calls()
+    calls = calls or Calls()
     for word, *strings in rows:
         line = " ".join([word, *(pieces_of(data, calls.kept) for data in strings)])
         yield line, getattr(calls, word)(*strings)

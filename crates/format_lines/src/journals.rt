@@ -148,7 +148,8 @@ fn read_batches(alloc: Global, strings: &[Vec<u8>]) -> Result<List<Batch>, NoAns
     Ok(batches)
 }
 
-pub(crate) fn batch_in(alloc: Global, bytes: &[u8]) -> Result<Batch, NoAnswer>
+/// The batch that the bytes are.
+pub fn batch_in(alloc: Global, bytes: &[u8]) -> Result<Batch, NoAnswer>
     ensures { IfOk result (λ batch. FitsBatch batch.commands) }
 {
     match read_batch(alloc, bytes) {

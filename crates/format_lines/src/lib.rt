@@ -45,4 +45,8 @@ mod rows;
 mod state;
 
 pub use answers::answer;
+pub use arguments::number_of;
+pub use journals::batch_in;
+pub use line::strings_of;
+pub use owners::owner_fault_text;
 pub use state::State;

@@ -2,6 +2,7 @@
 use crate::call::{Call, call_of};
 use line_pieces::{NoAnswer, put_piece};
 use std::alloc::Global;
+use std::str::Split;
 
 /// A call with the byte strings that it is asked of.
 #[derive(Drop)]
@@ -15,11 +16,21 @@ pub fn read_line(alloc: Global, kept: &[u8], line: &str) -> Result<Line, NoAnswe
     let mut words = line.split(' ');
     let word = words.next().unwrap_or("");
     let call = call_of(word).ok_or(NoAnswer::NoSuchLine)?;
+    let strings = strings_of(alloc, kept, words)?;
+    Ok(Line { call, strings })
+}
+
+/// The byte strings that the words are, where these bytes were kept last.
+pub fn strings_of(
+    alloc: Global,
+    kept: &[u8],
+    words: Split<'_, char>,
+) -> Result<Vec<Vec<u8>>, NoAnswer> {
     let mut strings = Vec::new(alloc);
     for word in words {
         strings.push(string_of(alloc, kept, word)?)?;
     }
-    Ok(Line { call, strings })
+    Ok(strings)
 }
 
 /// The byte string of pieces with a `+` between each two.

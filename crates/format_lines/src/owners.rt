@@ -89,7 +89,8 @@ fn catalog_in(alloc: Global, bytes: &[u8]) -> Result<Catalog, NoAnswer>
     }
 }
 
-pub(crate) fn owner_fault_text(alloc: Global, fault: OwnerFault) -> Result<String, NoAnswer> {
+/// Why an owner refuses a batch and its proofs.
+pub fn owner_fault_text(alloc: Global, fault: OwnerFault) -> Result<String, NoAnswer> {
     match fault {
         OwnerFault::Command { index, fault } => {
             let fault = form_of(alloc, &fault)?;

@@ -6,7 +6,7 @@ use std::alloc::Global;
 /// The bytes that were kept or made last, and the key that was.
 #[derive(Drop)]
 pub struct State {
-    pub(crate) bytes: Vec<u8>,
+    pub bytes: Vec<u8>,
     pub(crate) key: Option<SecretKey>,
 }
 

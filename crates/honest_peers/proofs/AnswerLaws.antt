@@ -20,7 +20,8 @@ use Rattle.round_trips.specs.Trips.{AreSealable, IsHonestReply, plain_answer}
 use Rattle.round_trips.proofs.SealedJournals.{owned}
 use Rattle.round_trips.proofs.Entries.{sealable_first}
 use Rattle.round_trips.proofs.TripLaws.{answer_is, only_exact, read}
-use Rattle.honest_peers.proofs.Readings.{never_bad, one_owned, one_reply}
+use Rattle.honest_peers.proofs.Readings.{never_bad, one_owned}
+use Rattle.vo_commands.proofs.OwnerAudits.{one_reply}
 
 says : (key : List ℕ) (least : ℕ) (q : Query) (r : Reply) (plain : Answer) (answer : Result Answer CheckFault) → IsReply (reply_bytes r) r
     → answer_to key least q r ≡ Ok plain → length (reply_bytes r) ≤ max_reply → CheckOf key least q (reply_bytes r) answer → answer ≡ Ok plain

@@ -36,7 +36,7 @@ use Rattle.vo_spec.specs.Honest.{honest_record, honest_reply}
 use Rattle.vo_spec.specs.declared.signatures.Levels.TheVariants.{One, Two}
 use Rattle.vo_spec.specs.Keys.{names_sets, is_key_by, is_public_key}
 use Rattle.vo_spec.specs.Replies.{max_reply, reply_bytes}
-use Rattle.honest_peers.proofs.Readings.{one_reply}
+use Rattle.vo_commands.proofs.OwnerAudits.{one_reply}
 use Rattle.store_requests.proofs.TextReadings.{text_read}
 use Rattle.vo_store.specs.declared.fault.StoreFault.{StoreFault}
 use Rattle.vo_store.specs.declared.fault.StoreFault.TheVariants as fault

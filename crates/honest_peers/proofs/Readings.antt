@@ -1,24 +1,15 @@
--- Bytes have one reading: as a reply, as an owner's journal.
+-- Bytes have one reading as an owner's journal.
 use Rattle.std.proofs.Common.{◌≡◌, ℕ, ◌+◌, List, [], ◌∷◌, ◌++◌, length, take, get_or, sym, ap, ◌∙◌, subst, inl, inr}
 use Rattle.std.proofs.lemmas.Bool.Decides.{leb_tells}
 use Rattle.std.proofs.lemmas.List.{take_all, take_more}
 use Rattle.vo_spec.specs.declared.records.Entry.{Entry}
 use Rattle.vo_spec.specs.Journals.{Begins}
 use Rattle.vo_spec.specs.Owners.{IsJournalOf}
-use Rattle.vo_spec.specs.Replies.{Reply, IsReply}
-use Rattle.batch_format.proofs.ReaderLaws.{some_is}
-use Rattle.vo_format.specs.Reading.{reply_at}
-use Rattle.vo_format.proofs.ReplyLaws.{reply_again}
 use Rattle.owner_roots.specs.Owners.{AreOwned, IsBadAt, IsOwned}
 use Rattle.owner_roots.proofs.OwnedLaws.{owned_front}
 use Rattle.owner_state.proofs.JournalLaws.{journal_stops, one_journal, only_first}
 use Rattle.owner_state.proofs.SlotLaws.{begins_front}
 use Rattle.round_trips.proofs.Entries.{there}
-
-pub one_reply : (bytes : List ℕ) (a b : Reply) → IsReply bytes a → IsReply bytes b → a ≡ b
-one_reply bytes a b first second =
-    ap (λ (read : Reply × List ℕ). read.0) (some_is (a, []) (b, [])
-    (sym (reply_again a [] first.fits) ∙ ap (λ (t : List ℕ). reply_at (t ++ [])) (sym first.encoded ∙ second.encoded) ∙ reply_again b [] second.fits))
 
 pub one_owned : (key bytes : List ℕ) (xs es : List Entry) → IsOwned key bytes xs → IsOwned key bytes es → xs ≡ es
 unfolding IsOwned

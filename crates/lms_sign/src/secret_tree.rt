@@ -116,7 +116,8 @@ impl SecretTree {
 
     /// The tree's identifier I.
     pub fn id(&self) -> &[u8; 16]
-        ensures { result.now ≡ self.now.id }
+        ensures value { result.now ≡ self.now.id }
+        ensures sixteen { length self.now.id ≡ 16 }
     {
         &self.id
     }

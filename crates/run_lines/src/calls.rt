@@ -6,7 +6,7 @@ use crate::line::{Frame, Line, Splice, read_line};
 use line_pieces::NoAnswer;
 use std::alloc::Global;
 use std::{io, mem};
-use vo_words::{Command, Commitment, Request, Service, read_words};
+use vo_words::{Command, Commitment, OwnerAudit, Request, Service, read_words};
 
 /// The answer to a line.
 pub fn answer(alloc: Global, folder: &mut Folder, line: &str) -> io::Result<String> {
@@ -119,6 +119,7 @@ fn command_form(alloc: Global, command: Command<'_>) -> Result<String, NoAnswer>
             query,
             reply,
         } => format!(in alloc; "(audit {key:?} {journal:?} {query:?} {reply:?})")?,
+        Command::Explain(audit) => owner_audit_form(alloc, audit)?,
         Command::Meet {
             key,
             query,
@@ -126,6 +127,21 @@ fn command_form(alloc: Global, command: Command<'_>) -> Result<String, NoAnswer>
             second,
         } => format!(in alloc; "(meet {key:?} {query:?} {first:?} {second:?})")?,
     })
+}
+
+fn owner_audit_form(alloc: Global, audit: OwnerAudit<'_>) -> Result<String, NoAnswer> {
+    let OwnerAudit {
+        key,
+        journal,
+        query,
+        reply,
+        seed,
+        shape,
+    } = audit;
+    let (height, levels) = (shape.height.number(), shape.levels.number());
+    Ok(format!(in alloc;
+        "(explain {key:?} {journal:?} {query:?} {reply:?} {seed:?} {height} {levels})"
+    )?)
 }
 
 /// Keeps a file, and says how long it is.

@@ -17,6 +17,7 @@ usage:
     vo_cli check PUB QUERY REPLY [--least V]   checks a reply and writes its rows
     vo_cli ask ADDR PUB QUERY [--least V]      asks a mirror, checks its reply, writes the rows
     vo_cli audit PUB JOURNAL QUERY REPLY       writes what a reply is worth by the journal
+      [--seed SEED [SHAPE]]                    and to the key's owner what gives a forger away
     vo_cli meet PUB QUERY REPLY REPLY          writes what two replies are to each other
 SEED, SQLFILE, PUB, JOURNAL and REPLY are files, QUERY is a text, and ADDR is as 127.0.0.1:7878.
 SHAPE is of the seed's key, and each time the same: [--height H] [--levels L], where H is 5, the

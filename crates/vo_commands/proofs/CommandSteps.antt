@@ -13,7 +13,7 @@ use Rattle.vo_commands.specs.Reports.{Answers, GoesOn, ReadsText}
 use Rattle.vo_spec.specs.declared.tables.Batch.{Batch}
 use Rattle.vo_spec.specs.Secret.{Secret}
 use Rattle.vo_commands.specs.Texts.{IsQueryText, IsRefusedScript}
-use Rattle.vo_commands.specs.Expected.{Expected, Exactly, OfQuery, OfScript, with_text, with_seed, seal_output, script_expected, seal_expected, script_limit, Audits, Replies, with_key, with_file, audit_expected, answer_expected, reply_limit, journal_limit}
+use Rattle.vo_commands.specs.Expected.{Expected, Exactly, OfQuery, OfScript, with_text, with_seed, seal_output, script_expected, seal_expected, script_limit, Replies, with_key, with_file, answer_expected, reply_limit, journal_limit}
 
 -- what was taken of a file answers for the file
 pub of_file : {B : Type 0} (expected : (B → Expected) → Expected) (b : B) (rest : B → Expected) (r : Result Report Stop) → ((rest : B → Expected) → expected rest ≡ rest b) → Answers (rest b) r → Answers (expected rest) r
@@ -58,23 +58,36 @@ pub query_known : (text : List ℕ) (q : Query) (rest : Files → Query → Expe
 query_known text q rest None r is a = tt
 query_known text q rest (Some known) r is a = of_query text q (rest known) r is a
 
-module _ (name journal query reply key held : List ℕ) (r : Result Report Stop) where
-  abbrev after_journal : Files → List ℕ → List ℕ → Expected
-  after_journal known x y = OfQuery query (λ z. with_file known reply reply_limit (λ w. Audits x y z w))
+-- what the rest of the work answers to a key and a journal
+module _ (name journal key held : List ℕ) (rest : Files → List ℕ → List ℕ → Expected) (r : Result Report Stop) where
+  abbrev AnswersBehind : Files → Type 0
+  AnswersBehind known = Answers (rest known key held) r
 
-  abbrev AnswersAudit : Files → Type 0
-  AnswersAudit known = Answers (after_journal known key held) r
-
-  pub audit_known : (o p s : Option Files) → p ≡ o → s ≡ p → IfSome o (KeyIs name key) → IfSome p (FileIs journal journal_limit held) → IfSome s AnswersAudit
-      → IfSome o (λ known. Answers (audit_expected name journal query reply known) r)
-  audit_known o p s same also k j a = step o k (subst (λ z. IfSome z (FileIs journal journal_limit held)) same j) (subst (λ z. IfSome z AnswersAudit) (also ∙ same) a)
+  pub key_and_journal_known : (o p s : Option Files) → p ≡ o → s ≡ p → IfSome o (KeyIs name key) → IfSome p (FileIs journal journal_limit held) → IfSome s AnswersBehind
+      → IfSome o (λ known. Answers (with_key known name (λ x. with_file known journal journal_limit (rest known x))) r)
+  key_and_journal_known o p s same also k j a = step o k (subst (λ z. IfSome z (FileIs journal journal_limit held)) same j) (subst (λ z. IfSome z AnswersBehind) (also ∙ same) a)
     where
-      step : (o : Option Files) → IfSome o (KeyIs name key) → IfSome o (FileIs journal journal_limit held) → IfSome o AnswersAudit
-          → IfSome o (λ known. Answers (audit_expected name journal query reply known) r)
+      step : (o : Option Files) → IfSome o (KeyIs name key) → IfSome o (FileIs journal journal_limit held) → IfSome o AnswersBehind
+          → IfSome o (λ known. Answers (with_key known name (λ x. with_file known journal journal_limit (rest known x))) r)
       step None k j a = tt
       step (Some known) k j a =
-          of_file (with_key known name) key (λ x. with_file known journal journal_limit (after_journal known x)) r k
-          (of_file (with_file known journal journal_limit) held (after_journal known key) r j a)
+          of_file (with_key known name) key (λ x. with_file known journal journal_limit (rest known x)) r k
+          (of_file (with_file known journal journal_limit) held (rest known key) r j a)
+
+-- and to a reply and a seed
+module _ (reply seed : List ℕ) (shape : PlainShape) (bytes : List ℕ) (secret : Secret) (rest : List ℕ → Secret → Expected) (r : Result Report Stop) where
+  abbrev HasSeed : Files → Type 0
+  HasSeed known = (after : Secret → Expected) → with_seed known seed shape after ≡ after secret
+
+  pub reply_and_seed_known : (o p : Option Files) → p ≡ o → IfSome o (FileIs reply reply_limit bytes) → IfSome p HasSeed → Answers (rest bytes secret) r
+      → IfSome o (λ known. Answers (with_file known reply reply_limit (λ b. with_seed known seed shape (rest b))) r)
+  reply_and_seed_known o p same f k a = step o f (subst (λ z. IfSome z HasSeed) same k)
+    where
+      step : (o : Option Files) → IfSome o (FileIs reply reply_limit bytes) → IfSome o HasSeed → IfSome o (λ known. Answers (with_file known reply reply_limit (λ b. with_seed known seed shape (rest b))) r)
+      step None f k = tt
+      step (Some known) f k =
+          of_file (with_file known reply reply_limit) bytes (λ b. with_seed known seed shape (rest b)) r f
+          (of_file (with_seed known seed shape) secret (rest bytes) r k a)
 
 module _ (name journal query key held : List ℕ) where
   pub answer_known : (o p : Option Files) (r : Result Report Stop) → p ≡ o → IfSome o (KeyIs name key) → IfSome p (FileIs journal journal_limit held)

@@ -5,7 +5,7 @@ use mathlib.Core.Logic.{inl, inr}
 use Rattle.outside.specs.Shelf.{Files}
 use Rattle.outside.specs.ConnectionModel.{ConnectionModel}
 use Rattle.outside.specs.DiskModel.{DiskModel}
-use Rattle.vo_words.specs.PlainRequest.{PlainRequest, Keygen, Seal, Own, Answer, Serve, Check, Ask, Audit, Meet}
+use Rattle.vo_words.specs.PlainRequest.{PlainRequest, Keygen, Seal, Own, Answer, Serve, Check, Ask, Audit, Explain, Meet}
 use Rattle.vo_commands.specs.declared.report.Report.{Report}
 use Rattle.vo_commands.specs.declared.report.Stop.{Stop}
 use Rattle.vo_commands.specs.declared.report.Stop.TheVariants.{Refused, Outside, Memory}
@@ -63,6 +63,7 @@ asks_nothing (Some (Serve address key journal count)) files before wire is = tt
 asks_nothing (Some (Check key query reply least)) files before wire is = is
 asks_nothing (Some (Ask address key query least)) files before wire is = inl is
 asks_nothing (Some (Audit key journal query reply)) files before wire is = is
+asks_nothing (Some (Explain key journal query reply seed shape)) files before wire is = is
 asks_nothing (Some (Meet key query first second)) files before wire is = is
 
 -- the same of `own`

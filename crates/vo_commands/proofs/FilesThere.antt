@@ -1,19 +1,17 @@
 -- Where each file that the words name is there, the work lacks none.
 use Rattle.std.proofs.Common.{◌≡◌, ℕ, ◌==◌, Bool, true, false, List, [], ◌∷◌, Option, Some, None, ap, arith, length, codes, decimal}
 use Rattle.std.specs.Prelude.{if◌then◌else◌, IfSome, IsSome, nat_lt}
-use Rattle.std.specs.Str.{is_utf8}
+use Rattle.std.specs.Str.{bytes_eq, is_utf8}
 use Rattle.outside.specs.Outputs.{Output, outside_failure}
 use Rattle.outside.specs.Shelf.{Files}
-use Rattle.vo_spec.specs.Conditions.{Query}
 use Rattle.vo_spec.specs.Secret.{Secret, public_of_secret}
 use Rattle.owner_state.specs.declared.sealing.SealFault.{SealFault}
 use Rattle.owner_state.specs.declared.sealing.SealFault.TheVariants as seal
-use Rattle.owner_state.specs.Sealing.{commands_of, seal_fault}
 use Rattle.vo_words.specs.Shapes.{PlainShape}
-use Rattle.vo_words.specs.PlainRequest.{PlainRequest, Keygen, Seal, Own, Answer, Serve, Check, Ask, Audit, Meet}
+use Rattle.vo_words.specs.PlainRequest.{PlainRequest, Keygen, Seal, Own, Answer, Serve, Check, Ask, Audit, Explain, Meet}
 use Rattle.vo_spec.specs.Keys.{is_public_key}
 use Rattle.vo_commands.specs.Lines.{input_refusal, success}
-use Rattle.vo_commands.specs.Expected.{Expected, Anything, Exactly, OfQuery, OfScript, HoldsEach, file_words, files_of_request, files_expected, reply_limit, sealed_output, script_expected, script_limit, seal_output, seed_limit, secret_in, with_contents, with_file, with_public, with_secret, words_expected, words_refusal}
+use Rattle.vo_commands.specs.Expected.{Expected, Anything, Exactly, Explains, OfScript, HoldsEach, file_words, files_of_request, files_expected, explained, sealed_output, script_expected, script_limit, seal_output, seed_limit, secret_in, with_contents, with_file, with_public, with_secret, words_expected}
 use Rattle.vo_commands.specs.Taking.{LacksFile}
 
 -- it isn't what is written of a fault of the outside
@@ -71,6 +69,11 @@ request_lacks_none (Check key query reply least) known all = there _ _ _ _ all.0
 request_lacks_none (Ask address key query least) known all = there _ _ _ _ all.0 (public _ (λ k lacks. lacks))
 request_lacks_none (Audit key journal query reply) known all =
     there _ _ _ _ all.0 (public _ (λ k. there _ _ _ _ all.1.0 (λ bytes lacks. there _ _ _ _ all.1.1.0 (λ bytes lacks. lacks) lacks.2)))
+request_lacks_none (Explain key journal query reply seed shape) known all =
+    there _ _ _ _ all.0 (public _ (λ k. there _ _ _ _ all.1.0 (λ j lacks. there _ _ _ _ all.1.1.0
+    (λ r. there _ _ _ _ all.1.1.1.0 (secret shape (explained k (λ s. Explains s j lacks.0 r))
+    (λ s. tested (bytes_eq (public_of_secret s) k) (codes "seed of another key" ∷ []) (Explains s j lacks.0 r) (λ lacks. lacks))))
+    lacks.2)))
 request_lacks_none (Meet key query first second) known all =
     there _ _ _ _ all.0 (public _ (λ k lacks. there _ _ _ _ all.1.0 (λ one. there _ _ _ _ all.1.1.0 (λ other lacks. lacks)) lacks.2))
 

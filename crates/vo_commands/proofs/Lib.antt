@@ -10,3 +10,4 @@ pub mod CommandSteps
 pub mod TakingSteps
 pub mod OwnerLaws
 pub mod OwnSteps
+pub mod OwnerAudits

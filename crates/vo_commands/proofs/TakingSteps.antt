@@ -2,7 +2,6 @@
 use Rattle.std.proofs.Common.{◌≡◌, ◌≤◌, ℕ, List, Option, Some, None, Result, refl, sym, subst, ◌∙◌, arith}
 use Rattle.std.specs.Prelude.{IfSome, is_some}
 use Rattle.outside.specs.Miss.{CountsMiss}
-use Rattle.outside.specs.Outputs.{outside_failure}
 use Rattle.outside.specs.Shelf.{Files}
 use Rattle.owner_session.proofs.SessionLaws.{rose_later}
 use Rattle.vo_commands.specs.declared.report.Stop.{Stop}
@@ -60,6 +59,11 @@ pub lacks_query : (text : List ℕ) (q : Query) (rest : Files → Query → Expe
 lacks_query text q rest expected None is goes = tt
 lacks_query text q rest expected (Some known) is goes = λ lacks. goes (q, is, lacks)
 
+missed_of_query : (text : List ℕ) (q : Query) (rest : Files → Query → Expected) (o : Option Files) (x y : ℕ) → IsQueryText text q
+    → IfSome o (Misses (Along (λ known. rest known q)) x y) → IfSome o (Misses (Along (λ known. OfQuery text (rest known))) x y)
+missed_of_query text q rest None x y is missed = tt
+missed_of_query text q rest (Some known) x y is missed = λ there. missed (λ lacks. there (q, is, lacks))
+
 module _ {S : Type 0} {contents : S → Option Files} {faults misses : S → ℕ} where
   -- the work ends with the first file that it comes to
   pub leaves_first : (name : List ℕ) (expected : Files → Expected) (before after : S) → ComesTo name expected
@@ -85,6 +89,19 @@ module _ {S : Type 0} {contents : S → Option Files} {faults misses : S → ℕ
       }
 
   -- the same of calls that end so
+
+  -- the work on a query is that on its text
+  pub takes_query : {B : Type 0} (text : List ℕ) (q : Query) (rest : Files → Query → Expected) (before after : S) (t : Result B Stop) → IsQueryText text q
+      → TakesFiles contents faults misses (Along (λ known. rest known q)) before after t → TakesFiles contents faults misses (Along (λ known. OfQuery text (rest known))) before after t
+  takes_query text q rest before after t is took = record {
+    leaves = record {
+      kept = took.leaves.kept;
+      counts = took.leaves.counts;
+      missed = missed_of_query text q rest (contents before) (misses before) (misses after) is took.leaves.missed;
+    };
+    cause = took.cause;
+    quiet = took.quiet;
+  }
 
   pub takes_first : {A B : Type 0} (name : List ℕ) (expected : Files → Expected) (before after : S) (r : Result A Stop) (t : Result B Stop)
       → (FailsOutside t → FailsOutside r) → (FailsOutside r → FailsOutside t) → ComesTo name expected

@@ -1,7 +1,7 @@
 -- What a run of the program must print, by its words and by the files that it takes.
-use Rattle.std.specs.Prelude.{◌≡◌, ◌⊎◌, ℕ, Bool, true, false, ◌&&◌, ◌==◌, nat_lt, if◌then◌else◌, List, [], ◌∷◌, length, take, drop, codes, decimal, Option, Some, None, option_map, IsSome, IfSome, IsTrue, slice_index, Result}
+use Rattle.std.specs.Prelude.{◌≡◌, ◌⊎◌, ℕ, Bool, true, false, ◌==◌, nat_lt, if◌then◌else◌, List, [], ◌∷◌, ◌++◌, map, length, take, drop, codes, decimal, Option, Some, None, option_map, IsSome, IfSome, IsTrue, slice_index, Result, Ok}
 use Rattle.std.specs.Option.{option_map_or}
-use Rattle.std.specs.Str.{is_utf8}
+use Rattle.std.specs.Str.{bytes_eq, is_utf8}
 use Rattle.outside.specs.Shelf.{Files}
 use Rattle.outside.specs.ConnectionModel.{ConnectionModel, open_next}
 use Rattle.link_frames.specs.declared.awaits.Awaits.TheVariants.{Reply as ReplyAwaited}
@@ -13,9 +13,11 @@ use Rattle.outside.specs.Outputs.{Output, Writes, outside_failure}
 use Rattle.vo_spec.specs.declared.signatures.OtsType.TheVariants.{W8}
 use Rattle.vo_spec.specs.declared.tables.Batch.{Batch}
 use Rattle.vo_spec.specs.declared.records.Entry.{Entry}
+use Rattle.vo_spec.specs.declared.records.Record.{Record}
 use Rattle.vo_spec.specs.declared.checks.Answer.{Answer as Accepted}
 use Rattle.vo_spec.specs.declared.checks.CheckFault.{CheckFault}
 use Rattle.vo_spec.specs.declared.checks.Verdict.{Verdict}
+use Rattle.vo_spec.specs.declared.checks.Verdict.TheVariants.{Unsigned}
 use Rattle.vo_spec.specs.declared.checks.AuditFault.{AuditFault}
 use Rattle.vo_spec.specs.declared.signatures.Levels.{Levels}
 use Rattle.vo_spec.specs.declared.signatures.Levels.TheVariants.{One, Two}
@@ -28,6 +30,9 @@ use Rattle.vo_spec.specs.Honest.{seal_batches, reply_of}
 use Rattle.vo_spec.specs.Owners.{IsLoadable, IsUnloadableAt}
 use Rattle.vo_spec.specs.Checks.{CheckOf}
 use Rattle.owner_roots.specs.Owners.{OwnedAuditOf}
+use Rattle.lms_forge.specs.declared.explanation.Explanation.{Explanation}
+use Rattle.lms_forge.specs.Explaining.{Explains as Explained}
+use Rattle.lms_forge.specs.Forgeries.{forgery_of}
 use Rattle.reply_meeting.specs.declared.meeting.Meeting.{Meeting}
 use Rattle.reply_meeting.specs.declared.meeting.MeetFault.{MeetFault}
 use Rattle.reply_meeting.specs.Meetings.{RepliesMeet}
@@ -35,15 +40,16 @@ use Rattle.owner_state.specs.declared.sealing.SealFault.{SealFault}
 use Rattle.owner_state.specs.declared.sealing.SealFault.TheVariants as seal
 use Rattle.owner_state.specs.Sealing.{commands_of, seal_fault}
 use Rattle.vo_words.specs.Shapes.{PlainShape}
-use Rattle.vo_words.specs.PlainRequest.{PlainRequest, Keygen, Seal, Own, Answer, Serve, Check, Ask, Audit, Meet}
+use Rattle.vo_words.specs.PlainRequest.{PlainRequest, Keygen, Seal, Own, Answer, Serve, Check, Ask, Audit, Explain, Meet}
 use Rattle.sql_text.specs.Scripts.{IsScript}
-use Rattle.vo_commands.specs.Lines.{success, refusal, input_refusal, check_output, audit_output, meet_output, bad_journal, command_output, spent_key, store_refusal, bad_frame, cut_off}
+use Rattle.vo_commands.specs.Lines.{success, refusal, input_refusal, check_output, audit_output, unsigned_output, unsigned_lines, explanation_lines, meet_output, bad_journal, command_output, spent_key, store_refusal, bad_frame, cut_off}
 use Rattle.vo_commands.specs.Texts.{IsQueryText, IsRefusedQuery, IsRefusedScript}
 
 -- These lines; or what is expected of the query or the script that a text is; or what a relation
--- allows: the reply to a query by a journal, what a client or an auditor answers to one, what two
--- replies are to each other, and why no store of a journal serves connections; or, with no lines of
--- its own, that an owner of a key commits batches; or anything, where the network isn't known.
+-- allows: the reply to a query by a journal, what a client or an auditor answers to one, or an
+-- auditor to the key's owner, what two replies are to each other, and why no store of a journal
+-- serves connections; or, with no lines of its own, that an owner of a key commits batches; or
+-- anything, where the network isn't known.
 pub data Expected : Type 0 where
   Exactly : (output : Output) → Expected
   OfQuery : (text : List ℕ) (rest : Query → Expected) → Expected
@@ -51,6 +57,7 @@ pub data Expected : Type 0 where
   Replies : (key journal : List ℕ) (q : Query) → Expected
   Checks : (key : List ℕ) (least : ℕ) (q : Query) (reply : List ℕ) → Expected
   Audits : (key journal : List ℕ) (q : Query) (reply : List ℕ) → Expected
+  Explains : (secret : Secret) (journal : List ℕ) (q : Query) (reply : List ℕ) → Expected
   Meets : (key : List ℕ) (q : Query) (first second : List ℕ) → Expected
   Serves : (key journal : List ℕ) (count : ℕ) → Expected
   Owns : (secret : Secret) (batches : List Batch) → Expected
@@ -74,6 +81,18 @@ abbrev pub IsUnservableAt : List ℕ → List ℕ → ℕ → Type 0
 IsUnservableAt key journal index =
     IsUnloadableAt key journal index × (IsJournal journal [] → ⊥)
 
+abbrev pub records_of : List Entry → List Record
+records_of es = map (λ (e : Entry). e.rec) es
+
+-- What an audit says to the owner of this key, who has its seed: of a record that the journal lacks
+-- also what explains that its signature is valid.
+abbrev pub IsToldToOwner : Secret → List ℕ → Result Verdict AuditFault → Output → Type 0
+IsToldToOwner secret journal (Ok (Unsigned rec signature last)) output =
+    (es : List Entry) × IsJournal journal es × (found : Explanation)
+    × Explained (forgery_of secret (records_of es) rec signature) found
+    × (output ≡ unsigned_output (unsigned_lines rec signature last ++ explanation_lines found))
+IsToldToOwner secret journal answer output = output ≡ audit_output answer
+
 abbrev pub Allows : Expected → Output → Type 0
 Allows (Exactly expected) output = output ≡ expected
 Allows (OfQuery text rest) output =
@@ -89,6 +108,10 @@ Allows (Checks key least q reply) output =
 Allows (Audits key journal q reply) output =
     (answer : Result Verdict AuditFault) × OwnedAuditOf key journal q reply answer
     × (output ≡ audit_output answer)
+Allows (Explains secret journal q reply) output =
+    (answer : Result Verdict AuditFault)
+    × OwnedAuditOf (public_of_secret secret) journal q reply answer
+    × IsToldToOwner secret journal answer output
 Allows (Meets key q first second) output =
     (met : Result (Reply × Reply × Meeting) MeetFault) × RepliesMeet key q first second met
     × (output ≡ meet_output met)
@@ -232,6 +255,19 @@ audit_expected key journal query reply files =
     with_key files key (λ k. with_file files journal journal_limit (λ j. OfQuery query (λ q.
     with_file files reply reply_limit (λ r. Audits k j q r))))
 
+-- an audit by the seed of this key, which another key's seed is refused for
+abbrev pub explained : List ℕ → (Secret → Expected) → Secret → Expected
+explained key rest secret =
+    if bytes_eq (public_of_secret secret) key then rest secret
+    else Exactly (input_refusal (codes "seed of another key" ∷ []))
+
+abbrev pub explain_expected : (key journal query reply seed : List ℕ) → PlainShape → Files
+    → Expected
+explain_expected key journal query reply seed shape files =
+    with_key files key (λ k. with_file files journal journal_limit (λ j. OfQuery query (λ q.
+    with_file files reply reply_limit (λ r. with_seed files seed shape
+    (explained k (λ secret. Explains secret j q r))))))
+
 abbrev pub meet_expected : List ℕ → List ℕ → List ℕ → List ℕ → Files → Expected
 meet_expected key query first second files =
     with_key files key (λ k. OfQuery query (λ q. with_file files first reply_limit (λ r.
@@ -254,6 +290,8 @@ command_expected (Ask address key query least) files queue =
     option_map (λ files. ask_expected key query least files queue) files
 command_expected (Audit key journal query reply) files queue =
     option_map (audit_expected key journal query reply) files
+command_expected (Explain key journal query reply seed shape) files queue =
+    option_map (explain_expected key journal query reply seed shape) files
 command_expected (Meet key query first second) files queue =
     option_map (meet_expected key query first second) files
 
@@ -345,6 +383,8 @@ files_of_request (Serve address key journal count) = key ∷ journal ∷ []
 files_of_request (Check key query reply least) = key ∷ reply ∷ []
 files_of_request (Ask address key query least) = key ∷ []
 files_of_request (Audit key journal query reply) = key ∷ journal ∷ reply ∷ []
+files_of_request (Explain key journal query reply seed shape) =
+    key ∷ journal ∷ reply ∷ seed ∷ []
 files_of_request (Meet key query first second) = key ∷ first ∷ second ∷ []
 
 -- what their files come to, whatever the network and the disk do
@@ -360,6 +400,8 @@ files_expected (Check key query reply least) files = check_expected key query re
 files_expected (Ask address key query least) files = with_key files key (λ _. Anything)
 files_expected (Audit key journal query reply) files =
     audit_expected key journal query reply files
+files_expected (Explain key journal query reply seed shape) files =
+    explain_expected key journal query reply seed shape files
 files_expected (Meet key query first second) files = meet_expected key query first second files
 
 abbrev pub words_expected : Option PlainRequest → Files → Expected

@@ -27,6 +27,8 @@ use Rattle.owner_roots.specs.declared.owner_fault.OwnerFault.{OwnerFault}
 use Rattle.owner_roots.specs.declared.owner_fault.OwnerFault.TheVariants as owner
 use Rattle.sql_text.specs.declared.faults.SqlFault.{SqlFault}
 use Rattle.sql_text.specs.declared.faults.SqlFault.TheVariants as sql
+use Rattle.lms_forge.specs.declared.explanation.Explanation.{Explanation}
+use Rattle.lms_forge.specs.declared.explanation.Explanation.TheVariants as explanation
 use Rattle.vo_spec.specs.Records.{record_bytes}
 use Rattle.vo_spec.specs.Replies.{Reply}
 use Rattle.vo_spec.specs.Results.{ref_title}
@@ -148,22 +150,27 @@ signed_lines rec signature = words_line (encode_lower (record_bytes rec) ∷ [])
     ++ words_line (encode_lower signature ∷ [])
 
 -- two strings of one digest
+abbrev pub string_lines : List ℕ × List ℕ → List ℕ
+string_lines found =
+    words_line (encode_lower found.0 ∷ []) ++ words_line (encode_lower found.1 ∷ [])
+
 abbrev pub collision_output : List ℕ × List ℕ → Output
-collision_output found = record {
-  status = 5;
-  bytes = words_line (codes "collision" ∷ []) ++ words_line (encode_lower found.0 ∷ [])
-      ++ words_line (encode_lower found.1 ∷ []);
-}
+collision_output found =
+    record { status = 5; bytes = words_line (codes "collision" ∷ []) ++ string_lines found }
 
 -- Verdicts of `audit`.
 
+abbrev pub unsigned_lines : Record → List ℕ → ℕ → List ℕ
+unsigned_lines rec signature last =
+    words_line (codes "unsigned" ∷ []) ++ signed_lines rec signature
+    ++ words_line (codes "journal ends at version" ∷ decimal last ∷ [])
+
+abbrev pub unsigned_output : List ℕ → Output
+unsigned_output bytes = record { status = 6; bytes = bytes }
+
 abbrev pub verdict_output : Verdict → Output
 verdict_output (Exact version) = success (words_line (codes "exact version" ∷ decimal version ∷ []))
-verdict_output (Unsigned rec signature last) = record {
-  status = 6;
-  bytes = words_line (codes "unsigned" ∷ []) ++ signed_lines rec signature
-      ++ words_line (codes "journal ends at version" ∷ decimal last ∷ []);
-}
+verdict_output (Unsigned rec signature last) = unsigned_output (unsigned_lines rec signature last)
 verdict_output (Collides found) = collision_output found
 
 abbrev pub bad_journal : ℕ → Output
@@ -175,6 +182,15 @@ audit_output (Ok verdict) = verdict_output verdict
 audit_output (Err (audit.BadJournal index)) = bad_journal index
 audit_output (Err (audit.Refused fault)) = refusal 1 (fault_words fault)
 audit_output (Err audit.Memory) = refusal 1 []
+
+-- what explains that a signature is valid which the owner never made
+abbrev pub explanation_lines : Explanation → List ℕ
+explanation_lines (explanation.Collides found) =
+    words_line (codes "forged by collision" ∷ []) ++ string_lines found
+explanation_lines (explanation.Chain level leaf chain step bytes) =
+    words_line
+    (codes "forged chain" ∷ decimal level ∷ decimal leaf ∷ decimal chain ∷ decimal step ∷ [])
+    ++ words_line (encode_lower bytes ∷ [])
 
 -- Meetings of `meet`.
 

@@ -1,8 +1,8 @@
 //! `audit`: the verdict of an auditor with the owner's journal on a reply.
-ghost use Rattle.std.specs.Prelude.{◌≡◌, ◌⊎◌, ℕ, List, [], ◌∷◌, Err, IfSome};
-ghost use Rattle.vo_spec.specs.Conditions.{Query, query_of};
-ghost use Rattle.owner_roots.specs.Owners.{OwnedAuditOf};
-ghost use Rattle.vo_commands.specs.Expected.{audit_expected, OfQuery, with_file, reply_limit, Audits};
+ghost use Rattle.std.specs.Prelude.{◌≡◌, ◌⊎◌, [], ◌∷◌, Err, IfSome};
+ghost use Rattle.vo_spec.specs.Conditions.{query_of};
+ghost use Rattle.vo_commands.specs.Expected.{audit_expected, Expected, Allows, OfQuery, with_file, reply_limit, Audits};
+ghost use Rattle.vo_commands.specs.Lines.{audit_output};
 ghost use Rattle.vo_commands.specs.Reports.{Answers, StaysInside};
 ghost use Rattle.vo_commands.specs.Taking.{TakesFiles, One, Along};
 
@@ -99,10 +99,13 @@ fn audit_report(
 }
 
 /// What is printed of what an auditor says of a reply.
-fn report_of(alloc: Global, verdict: &Result<Verdict, AuditFault>) -> Result<Report, Stop>
-    ensures known { (key journal : List ℕ) (q : Query) (reply : List ℕ)
-        → (verdict.now ≡ Err AuditFault.Memory) ⊎ OwnedAuditOf key journal q reply verdict.now
-        → Answers (Audits key journal q reply) result }
+pub(crate) fn report_of(
+    alloc: Global,
+    verdict: &Result<Verdict, AuditFault>,
+) -> Result<Report, Stop>
+    ensures known { (expected : Expected)
+        → (verdict.now ≡ Err AuditFault.Memory) ⊎ Allows expected (audit_output verdict.now)
+        → Answers expected result }
     ensures inside { StaysInside result }
 {
     match verdict {

@@ -6,6 +6,8 @@ mod answers;
 mod ask;
 mod audit;
 mod check;
+mod explain;
+mod explanations;
 mod files;
 mod journal_owner;
 mod keygen;

@@ -14,6 +14,7 @@ use crate::answer::answer;
 use crate::ask::ask;
 use crate::audit::audit;
 use crate::check::check;
+use crate::explain::explain;
 use crate::keygen::keygen;
 use crate::meet::meet;
 use crate::output::print_outcome;
@@ -177,6 +178,7 @@ fn run_command<F: Shelf, N: Net>(
             query,
             reply,
         } => audit(alloc, files, key, journal, query, reply),
+        Command::Explain(audit) => explain(alloc, files, &audit),
         Command::Meet {
             key,
             query,

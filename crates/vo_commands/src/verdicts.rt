@@ -1,7 +1,7 @@
 //! What `audit` prints of a reply that a client accepts, and evidence that `meet` has too.
 ghost use Rattle.std.specs.Prelude.{◌≡◌, ◌++◌, IfOk, OnOk};
 ghost use Rattle.vo_spec.specs.declared.checks.Verdict.TheVariants.{Exact, Unsigned};
-ghost use Rattle.vo_commands.specs.Lines.{collision_output, signed_lines, verdict_output};
+ghost use Rattle.vo_commands.specs.Lines.{collision_output, signed_lines, string_lines, unsigned_lines, verdict_output};
 ghost use Rattle.vo_commands.specs.Reports.{output_of};
 
 use crate::lines::{push_words, words_line};
@@ -49,14 +49,28 @@ fn unsigned_report(
         ≡ verdict_output (Unsigned rec.now signature.now last)) }
 {
     let mut bytes = Vec::new(alloc);
-    push_words(alloc, &mut bytes, &[Word::Phrase("unsigned")])?;
-    push_signed(alloc, &mut bytes, rec, signature)?;
-    let words = [Word::Phrase("journal ends at version"), Word::Number(last)];
-    push_words(alloc, &mut bytes, &words)?;
+    push_unsigned(alloc, &mut bytes, rec, signature, last)?;
     Ok(Report {
         status: Status::Unsigned,
         bytes,
     })
+}
+
+/// A record that the journal lacks, with its signature, and where the journal ends.
+pub fn push_unsigned(
+    alloc: Global,
+    out: &mut Vec<u8>,
+    rec: &Record,
+    signature: &[u8],
+    last: u64,
+) -> Result<(), AllocError>
+    ensures { OnOk result (out.new.items
+        ≡ out.old.items ++ unsigned_lines rec.now signature.now last) }
+{
+    push_words(alloc, out, &[Word::Phrase("unsigned")])?;
+    push_signed(alloc, out, rec, signature)?;
+    let words = [Word::Phrase("journal ends at version"), Word::Number(last)];
+    push_words(alloc, out, &words)
 }
 
 /// A record and its signature, a line each.
@@ -78,10 +92,17 @@ pub fn collision_report(alloc: Global, found: &Collision) -> Result<Report, Allo
 {
     let mut bytes = Vec::new(alloc);
     push_words(alloc, &mut bytes, &[Word::Phrase("collision")])?;
-    push_words(alloc, &mut bytes, &[Word::Hexadecimal(found.first())])?;
-    push_words(alloc, &mut bytes, &[Word::Hexadecimal(found.second())])?;
+    push_strings(alloc, &mut bytes, found)?;
     Ok(Report {
         status: Status::Collision,
         bytes,
     })
+}
+
+/// The two strings of a collision, a line each.
+pub fn push_strings(alloc: Global, out: &mut Vec<u8>, found: &Collision) -> Result<(), AllocError>
+    ensures { OnOk result (out.new.items ≡ out.old.items ++ string_lines found.now) }
+{
+    push_words(alloc, out, &[Word::Hexadecimal(found.first())])?;
+    push_words(alloc, out, &[Word::Hexadecimal(found.second())])
 }

@@ -53,7 +53,7 @@ ask_app = command_of (codes "ask")
 abbrev pub audit_app : App
 audit_app = command_of (codes "audit")
     (word_rule (codes "key") ∷ word_rule (codes "journal") ∷ word_rule (codes "query")
-    ∷ word_rule (codes "reply") ∷ [])
+    ∷ word_rule (codes "reply") ∷ option_rule (codes "seed") ∷ key_rules)
 
 abbrev pub meet_app : App
 meet_app = command_of (codes "meet")

@@ -18,6 +18,7 @@ pub data PlainRequest : Type 0 where
   Check : (key query reply : Text) (least : ℕ) → PlainRequest
   Ask : (address key query : Text) (least : ℕ) → PlainRequest
   Audit : (key journal query reply : Text) → PlainRequest
+  Explain : (key journal query reply seed : Text) (shape : PlainShape) → PlainRequest
   Meet : (key query first second : Text) → PlainRequest
 
 -- a height is 5 or 10, in digits
@@ -96,11 +97,17 @@ ask_request rows =
     with_word (codes "query") rows (λ query. option_map (Ask address key query)
     (given_least rows))))
 
+-- an audit, or where a seed is given, the key owner's
+abbrev pub audit_by : (key journal query reply : Text) → Option Text → PlainShape → PlainRequest
+audit_by key journal query reply None shape = Audit key journal query reply
+audit_by key journal query reply (Some seed) shape = Explain key journal query reply seed shape
+
 abbrev pub audit_request : List Row → Option PlainRequest
 audit_request rows =
     with_word (codes "key") rows (λ key. with_word (codes "journal") rows (λ journal.
     with_word (codes "query") rows (λ query. with_word (codes "reply") rows (λ reply.
-    Some (Audit key journal query reply)))))
+    option_map (audit_by key journal query reply (first_of (codes "seed") rows))
+    (given_shape rows)))))
 
 abbrev pub meet_request : List Row → Option PlainRequest
 meet_request rows = with_word (codes "key") rows (λ key. with_word (codes "query") rows (λ query.

@@ -67,7 +67,15 @@ const FORMS: [Form<'static>; 9] = [
     },
     Form {
         name: "audit",
-        takes: &[Word("key"), Word("journal"), Word("query"), Word("reply")],
+        takes: &[
+            Word("key"),
+            Word("journal"),
+            Word("query"),
+            Word("reply"),
+            Named("seed"),
+            Named("height"),
+            Named("levels"),
+        ],
     },
     Form {
         name: "meet",

@@ -10,4 +10,4 @@ mod read;
 mod request;
 
 pub use read::read_words;
-pub use request::{Command, Commitment, Height, KeyShape, Levels, Request, Service};
+pub use request::{Command, Commitment, Height, KeyShape, Levels, OwnerAudit, Request, Service};

@@ -7,7 +7,7 @@ ghost use Rattle.vo_words.specs.Request.{plain_command, plain_commitment, plain_
 
 use crate::commands::program;
 use crate::numbers::number_in;
-use crate::request::{Command, Commitment, Height, KeyShape, Levels, Request, Service};
+use crate::request::{Command, Commitment, Height, KeyShape, Levels, OwnerAudit, Request, Service};
 use clap::error::ErrorKind;
 use clap::{ArgMatches, Error};
 use std::alloc::{AllocError, Global};
@@ -186,11 +186,22 @@ fn audit_request<'a>(used: &ArgMatches<'a>) -> Option<Command<'a>>
     let journal = text_of(used, "journal")?;
     let query = text_of(used, "query")?;
     let reply = text_of(used, "reply")?;
-    Some(Command::Audit {
-        key,
-        journal,
-        query,
-        reply,
+    let shape = shape_of(used)?;
+    Some(match text_of(used, "seed") {
+        None => Command::Audit {
+            key,
+            journal,
+            query,
+            reply,
+        },
+        Some(seed) => Command::Explain(OwnerAudit {
+            key,
+            journal,
+            query,
+            reply,
+            seed,
+            shape,
+        }),
     })
 }
 

@@ -81,6 +81,18 @@ pub struct Service<'a> {
     pub count: u32,
 }
 
+/// What an audit is of, and the seed of the key, by which its owner shows what a signature gives
+/// away that it never made.
+#[derive(Clone, Copy, Debug)]
+pub struct OwnerAudit<'a> {
+    pub key: &'a str,
+    pub journal: &'a str,
+    pub query: &'a str,
+    pub reply: &'a str,
+    pub seed: &'a str,
+    pub shape: KeyShape,
+}
+
 /// A command that writes once.
 #[derive(Clone, Copy, Debug)]
 pub enum Command<'a> {
@@ -118,6 +130,7 @@ pub enum Command<'a> {
         query: &'a str,
         reply: &'a str,
     },
+    Explain(OwnerAudit<'a>),
     /// Two replies to one query, in the order of the words.
     Meet {
         key: &'a str,

@@ -14,6 +14,8 @@ mod releasing;
 mod reopening;
 mod schedules;
 mod stepping;
+#[cfg(test)]
+mod tests;
 mod world;
 
 pub use events::{AcceptedReply, Event, Said};

@@ -1,13 +1,14 @@
 use Rattle.std.proofs.Common.{ℕ, List}
 use Rattle.outside.specs.Shelf.{Files}
 use Rattle.vo_commands.specs.Expected.{Audits, OfQuery, audit_expected, journal_limit, key_limit, reply_limit, with_file, with_key}
-use Rattle.vo_commands.proofs.CommandSteps.{audit_known}
+use Rattle.vo_commands.proofs.CommandSteps.{key_and_journal_known}
 use Rattle.vo_commands.proofs.TakingSteps.{lacks_behind, lacks_it, takes_more}
 use Rattle.vo_commands.proofs.audit.audit.Goals as goal
 
 pub returns-clause-known : goal.returns-clause-known
 returns-clause-known g c =
-    audit_known c.args.key.now c.args.journal.now c.args.query.now c.args.reply.now _ _ _ _ _ _
+    key_and_journal_known c.args.key.now c.args.journal.now _ _
+    (λ known k j. OfQuery c.args.query.now (λ q. with_file known c.args.reply.now reply_limit (λ r. Audits k j q r))) _ _ _ _
     c.in_ok-key.ensures.files.leaves.kept c.in_ok-journal.ensures.files.leaves.kept c.in_ok-key.ensures.known c.in_ok-journal.ensures.known
     (rw c.deref.ensures.value at c.audit_query.ensures.known)
 

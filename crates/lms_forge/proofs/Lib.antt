@@ -1,0 +1,12 @@
+pub mod ChainLaws
+pub mod DigestBytes
+pub mod DigitOrder
+pub mod ExplainLaws
+pub mod Findings
+pub mod LeafLaws
+pub mod LevelLaws
+pub mod LowerDigits
+pub mod PartLaws
+pub mod PathLaws
+pub mod RecordLaws
+pub mod Splitting
