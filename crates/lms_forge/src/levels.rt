@@ -1,8 +1,8 @@
 //! Which leaf a forged signature is by, and what explains it.
-ghost use Rattle.std.specs.Prelude.{◌≡◌, ◌≢◌, ◌==◌, ◌^◌, ◌<◌, length, Some, None, option_copied, find, IfOk, IsTrue, Contains, if◌then◌else◌};
+ghost use Rattle.std.specs.Prelude.{◌≡◌, ◌≢◌, Some, None, IfOk, IsTrue, Contains, if◌then◌else◌};
 ghost use Rattle.vo_spec.specs.declared.signatures.Levels.TheVariants.{Two};
 ghost use Rattle.vo_spec.specs.Bytes.{u32_at};
-ghost use Rattle.vo_spec.specs.Records.{FitsRecord, record_bytes};
+ghost use Rattle.vo_spec.specs.Records.{record_bytes};
 ghost use Rattle.vo_spec.specs.LmsSets.{leaves_of};
 ghost use Rattle.vo_spec.specs.Lms.{tree_valid};
 ghost use Rattle.vo_spec.specs.Keys.{leaf_by, leaf_of, lms_valid, pair_valid};
@@ -13,42 +13,11 @@ ghost use Rattle.lms_forge.specs.Explaining.{Explains};
 
 use crate::explanation::Explanation;
 use crate::leaves::explain_leaf;
+use crate::signed::{has_signed_below, record_at, told_to_fit};
 use lms_sign::{Pair, SecretKey, SecretTree, pair_of};
 use std::alloc::{AllocError, Global};
 use version_record::record_bytes;
 use vo_spec::{Levels, Record};
-
-// The record of a version among those that were signed.
-fn record_at(signed: &[Record], version: u64) -> Option<&Record>
-    ensures { option_copied result ≡ find (λ r. r.version == version) signed.now }
-{
-    signed.iter().find(|rec| rec.version == version)
-}
-
-// A record of a version in lower tree `u` was signed.
-fn has_signed_below(signed: &[Record], leaves: u64, u: u64) -> bool
-    requires { leaves ≢ 0 }
-    ensures { result ≡ has_signed_below signed.now leaves u }
-{
-    signed.iter().any(|rec| rec.version / leaves == u)
-}
-
-// What the types of a record's parts say, and so that it has its form.
-fn told_of_id(id: &[u8; 16])
-    ensures { length id.now ≡ 16 }
-{}
-
-fn told_of_version(version: u64)
-    ensures { version < 2 ^ 64 }
-{}
-
-fn told_to_fit(rec: &Record)
-    ensures { FitsRecord rec.now }
-{
-    told_of_id(&rec.id);
-    told_of_version(rec.version);
-    let _catalog = rec.catalog.as_bytes();
-}
 
 // Explains the signature of a record by a leaf of this tree, where the leaf is that of the record's
 // version.

@@ -10,6 +10,9 @@ mod leaves;
 mod levels;
 mod parts;
 mod paths;
+mod signed;
+#[cfg(test)]
+mod tests;
 mod texts;
 
 pub use explanation::Explanation;
