@@ -33,50 +33,61 @@ fn explained(
     Ok(Some(explain(alloc, key, signed, rec, signature)?))
 }
 
-/// The bytes of a chain lead to what the owner's signature of the message, by the same leaf of this
-/// tree, has of the chain.
-fn leads_to_signed(
-    tree: &SecretTree,
-    leaf: u32,
-    found: (u16, u8, Digest),
-    message: &[u8],
-    signature: &[u8],
-) -> bool {
-    let (i, step, bytes) = found;
+/// A message that the owner signed by a leaf, and the tree's signature of it.
+#[derive(Clone, Copy)]
+struct Own<'a> {
+    message: &'a [u8],
+    signature: &'a [u8],
+}
+
+/// The step and the value of chain `i` that the owner's signature shows, or the end of the chain.
+fn known(tree: &SecretTree, leaf: u32, i: u16, own: Option<Own<'_>>) -> (u32, Digest) {
     let ots = tree.ots();
-    if signature.len() < 4 + ots.signature_len() || i >= ots.count() {
-        return false;
-    }
-    let part = ots_part(ots, signature);
-    let digits = digits_of(tree.id(), leaf, ots, &randomizer_of(part), message);
-    let digit = coef(&digits, i as usize, ots.width());
-    let value = digest_at(part, 36 + 32 * i as usize);
-    u32::from(step) < digit && chain(tree.id(), leaf, i, u32::from(step), digit, &bytes) == value
-}
-
-/// They lead to the end of the chain.
-fn leads_to_end(tree: &SecretTree, leaf: u32, found: (u16, u8, Digest)) -> bool {
-    let (i, step, bytes) = found;
-    let last = (1 << tree.ots().width()) - 1;
+    let last = (1 << ots.width()) - 1;
     let start = secret(tree.id(), leaf, i, tree.seed());
-    u32::from(step) < last
-        && chain(tree.id(), leaf, i, u32::from(step), last, &bytes)
-            == chain(tree.id(), leaf, i, 0, last, &start)
+    let end = (last, chain(tree.id(), leaf, i, 0, last, &start));
+    let Some(own) = own else {
+        return end;
+    };
+    if own.signature.len() < 4 + ots.signature_len() || i >= ots.count() {
+        return end;
+    }
+    let part = ots_part(ots, own.signature);
+    let at = 36 + 32 * i as usize;
+    if part.len() < at + 32 {
+        return end;
+    }
+    let digits = digits_of(tree.id(), leaf, ots, &randomizer_of(part), own.message);
+    (coef(&digits, i as usize, ots.width()), digest_at(part, at))
 }
 
-/// The chain by which the signature is explained, by this leaf of a tree of this level.
-fn chain_of(found: Option<Explanation>, of: (u8, u32)) -> Option<(u16, u8, Digest)> {
-    match found {
+/// It is a chain of this leaf, and its bytes lead to what is known of the chain.
+fn is_chain(
+    told: &Option<Explanation>,
+    level: u8,
+    leaf: u32,
+    tree: &SecretTree,
+    own: Option<Own<'_>>,
+) -> bool {
+    match told {
         Some(
             Explanation::Chain {
-                level,
-                leaf,
-                chain,
+                level: of_level,
+                leaf: of_leaf,
+                chain: i,
                 step,
                 bytes,
             },
-        ) if (level, leaf) == of => Some((chain, step, bytes)),
-        _ => None,
+        ) => {
+            let (last, value) = known(tree, leaf, *i, own);
+            let from = u32::from(*step);
+            *of_level == level
+                && *of_leaf == leaf
+                && from < last
+                && last <= 255
+                && chain(tree.id(), leaf, *i, from, last, bytes) == value
+        }
+        _ => false,
     }
 }
 
@@ -86,14 +97,15 @@ fn is_explained(alloc: Global, ots: OtsType) -> Result<bool, Fail> {
     let signed = [record(2, 0), record(3, 1), record(4, 2)];
     let rec = record(3, 9);
     let signature = key.sign(alloc, 3, &record_bytes(&rec))?;
-    let own = key.sign(alloc, 3, &record_bytes(&signed[1]))?;
+    let message = record_bytes(&signed[1]);
+    let signed_own = key.sign(alloc, 3, &message)?;
+    let own = Own {
+        message: &message,
+        signature: &signed_own,
+    };
     let told = explained(alloc, &key, &signed, &rec, &signature)?;
     let alone = explained(alloc, &key, &signed[..1], &rec, &signature)?;
-    let (Some(told), Some(alone)) = (chain_of(told, (0, 3)), chain_of(alone, (0, 3))) else {
-        return Ok(false);
-    };
-    let message = record_bytes(&signed[1]);
-    Ok(leads_to_signed(key.tree(), 3, told, &message, &own) && leads_to_end(key.tree(), 3, alone))
+    Ok(is_chain(&told, 0, 3, key.tree(), Some(own)) && is_chain(&alone, 0, 3, key.tree(), None))
 }
 
 #[test]
@@ -110,13 +122,17 @@ fn is_explained_below(alloc: Global) -> Result<bool, Fail> {
     let rec = record(37, 9);
     let message = record_bytes(&signed[0]);
     let signature = key.sign(alloc, 37, &record_bytes(&rec))?;
-    let own = key.sign(alloc, 37, &message)?;
+    let signed_own = key.sign(alloc, 37, &message)?;
     let lower = key.lower_tree(alloc, 1)?;
     let told = explained(alloc, &key, &signed, &rec, &signature)?;
-    match (chain_of(told, (1, 5)), pair_of(&key.tree().key(), &own)) {
-        (Some(told), Some(pair)) => Ok(leads_to_signed(&lower, 5, told, &message, pair.lower)),
-        _ => Ok(false),
-    }
+    let Some(pair) = pair_of(&key.tree().key(), &signed_own) else {
+        return Ok(false);
+    };
+    let own = Own {
+        message: &message,
+        signature: pair.lower,
+    };
+    Ok(is_chain(&told, 1, 5, &lower, Some(own)))
 }
 
 /// A signature of two levels, by leaf `q` of a tree that leaf `u` of the key's tree signed.
@@ -146,19 +162,17 @@ fn is_explained_above(alloc: Global) -> Result<bool, Fail> {
     let rec = record(37, 9);
     let signature = sign_through(alloc, &key, 1, &foreign, 5, &record_bytes(&rec))?;
     let signed = [record(40, 1)];
-    let own = key.sign(alloc, 40, &record_bytes(&signed[0]))?;
+    let signed_own = key.sign(alloc, 40, &record_bytes(&signed[0]))?;
     let told = explained(alloc, &key, &signed, &rec, &signature)?;
     let alone = explained(alloc, &key, &[], &rec, &signature)?;
-    let (Some(told), Some(alone)) = (chain_of(told, (0, 1)), chain_of(alone, (0, 1))) else {
+    let Some(pair) = pair_of(&key.tree().key(), &signed_own) else {
         return Ok(false);
     };
-    match pair_of(&key.tree().key(), &own) {
-        Some(pair) => Ok(
-            leads_to_signed(key.tree(), 1, told, pair.key, pair.upper)
-                && leads_to_end(key.tree(), 1, alone),
-        ),
-        None => Ok(false),
-    }
+    let own = Own {
+        message: pair.key,
+        signature: pair.upper,
+    };
+    Ok(is_chain(&told, 0, 1, key.tree(), Some(own)) && is_chain(&alone, 0, 1, key.tree(), None))
 }
 
 #[test]
