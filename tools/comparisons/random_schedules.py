@@ -20,6 +20,8 @@ TURN = parse_script("CREATE TABLE turn (id BIGINT, PRIMARY KEY (id)); COMMIT; DR
 NO_PROOFS = b"VOU1\0\0"
 # a key of height 5 ends behind so many versions, or its lower tree does
 BORDER = 32
+# the types of one-time signatures: of the last one a signature takes the most hashes
+ONE_LEVEL_SETS = [1, 2, *[3] * 7, 4]
 
 
 class Story:
@@ -27,7 +29,9 @@ class Story:
 
     def __init__(self, number):
         self.run = run = random.Random(number)
-        self.secret = SecretKey(SECRET.ident, SECRET.seed, run.choice([1, 2, 3, 3, 3, 3, 3, 4]), 5, run.choice([1, 1, 2]))
+        # an owner that comes back makes its lower tree anew, so a key of two levels has a set of short chains
+        levels = run.choice([1, 1, 1, 2])
+        self.secret = SecretKey(SECRET.ident, SECRET.seed, run.choice(ONE_LEVEL_SETS) if levels == 1 else 2, 5, levels)
         work = Workload(number, tables=run.choice([1, 2]), batches=run.randint(6, 14), commands=run.choice([1, 2, 4]), queries=6,
                         spread=run.choice([5, 20]), long_texts=False)
         self.batches, self.queries = work.batches, {text: parse_query(text) for text in work.queries}

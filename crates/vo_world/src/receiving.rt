@@ -25,22 +25,21 @@ impl World {
         self.accepted.reserve(1)?;
         let moment = self.disk.moment();
         let client = &mut self.clients[reply.client];
-        match client.check(alloc, &reply.query, reply.bytes.as_slice()) {
+        let answer = client.check(alloc, &reply.query, reply.bytes.as_slice());
+        if let Err(CheckFault::Memory) = answer {
+            drop(reply);
+            return Err(AllocError);
+        }
+        self.released = released;
+        self.since = moment;
+        match answer {
             Ok(answer) => {
                 reply.version = answer.version;
                 self.accepted.push(reply).unwrap();
-                self.released = released;
-                self.since = moment;
                 Ok(Said::Accepted(answer))
-            }
-            Err(CheckFault::Memory) => {
-                drop(reply);
-                Err(AllocError)
             }
             Err(fault) => {
                 drop(reply);
-                self.released = released;
-                self.since = moment;
                 Ok(Said::Refused(fault))
             }
         }
