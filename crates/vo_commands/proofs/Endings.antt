@@ -72,3 +72,8 @@ pub own_ends_empty : (o : Option Expected) (FilesRose NetRose DiskRose OutRose :
     → IfSome o (λ expected. OwnEnds expected FilesRose NetRose DiskRose OutRose 4 drive drive wire wire written written)
 own_ends_empty None FilesRose NetRose DiskRose OutRose drive wire written = tt
 own_ends_empty (Some expected) FilesRose NetRose DiskRose OutRose drive wire written = inl (inl (refl, refl), refl, refl)
+
+-- what is as it was is so where nothing was to be committed
+pub left_as_it_was : {P : Type 0} (Q : Expected → Type 0) (o : Option Expected) → P → IfSome o (λ expected. Q expected → P)
+left_as_it_was Q None p = tt
+left_as_it_was Q (Some expected) p = λ q. p

@@ -31,7 +31,7 @@ use Rattle.vo_commands.specs.Expected.{Expected, Ends, OfScript, Owns, Allows, s
 use Rattle.vo_commands.specs.Reports.{GoesOn, ReadsText, WritesOutcome, output_of}
 use Rattle.vo_commands.specs.Texts.{IsRefusedScript}
 use Rattle.vo_commands.specs.Committing.{AreOfVersions, IsJudgement, LeavesWith, entry_forms}
-use Rattle.vo_commands.specs.Owning.{Commits, CommitsFrom, CommitsOnline, CommitsOver, IsCommitment, KeepsEntry, Leaves, LeavesAsBefore, LeavesAsFound, OwnEnds, Prepares, commitment_expected, commitment_in}
+use Rattle.vo_commands.specs.Owning.{Commits, CommitsFrom, CommitsNothing, CommitsOnline, CommitsOver, IsCommitment, KeepsEntry, Leaves, LeavesAsBefore, LeavesAsFound, OwnEnds, Prepares, commitment_expected, commitment_in}
 
 -- The script.
 
@@ -402,3 +402,29 @@ module _ (NetRose DiskRose OutRose : Type 0) (status : ℕ) (drive later_drive :
       step (Some known) goes ended =
           subst (λ (x : Expected). Ended x FilesRose) (sym (goes (λ secret. with_file known script script_limit (commitment_in secret))))
           (later (with_file known script script_limit (commitment_in secret)) ended)
+
+-- Where nothing is to be committed.
+
+pub left_alone : {P : Type 0} (Q : Files → Type 0) (o : Option Files) → P → IfSome o (λ known. Q known → P)
+left_alone Q None p = tt
+left_alone Q (Some known) p = λ q. p
+
+pub something_prepared : (P : Type 0) (secret : Secret) (batches : Vec Batch) (script : List ℕ) (o : Option Files)
+    → IfSome o (λ known. (secret : Secret) → Prepares (with_file known script script_limit (commitment_in secret)) secret (Ok batches))
+    → IfSome o (λ known. CommitsNothing (with_file known script script_limit (commitment_in secret)) → P)
+something_prepared P secret batches script None prepares = tt
+something_prepared P secret batches script (Some known) prepares = λ nothing. absurd (nothing secret batches.items (prepares secret))
+
+pub nothing_with_key : (P : Type 0) (seed script : List ℕ) (shape : PlainShape) (secret : Secret) (o p : Option Files) → p ≡ o
+    → IfSome o (λ known. (rest : Secret → Expected) → with_seed known seed shape rest ≡ rest secret)
+    → IfSome p (λ known. CommitsNothing (with_file known script script_limit (commitment_in secret)) → P)
+    → IfSome o (λ known. CommitsNothing (commitment_expected seed script shape known) → P)
+nothing_with_key P seed script shape secret o p same goes alone =
+    step o goes (subst (λ z. IfSome z (λ known. CommitsNothing (with_file known script script_limit (commitment_in secret)) → P)) same alone)
+  where
+    step : (o : Option Files) → IfSome o (λ known. (rest : Secret → Expected) → with_seed known seed shape rest ≡ rest secret)
+        → IfSome o (λ known. CommitsNothing (with_file known script script_limit (commitment_in secret)) → P)
+        → IfSome o (λ known. CommitsNothing (commitment_expected seed script shape known) → P)
+    step None goes alone = tt
+    step (Some known) goes alone = λ nothing.
+        alone (subst CommitsNothing (goes (λ secret. with_file known script script_limit (commitment_in secret))) nothing)

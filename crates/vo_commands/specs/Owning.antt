@@ -52,6 +52,11 @@ IsCommitment (OfScript text rest) secret batches =
 IsCommitment (Owns owner due) secret batches = (owner ≡ secret) × (due ≡ batches)
 IsCommitment _ secret batches = ⊥
 
+-- no owner is expected: the seed file or the script is refused, or isn't there
+abbrev pub CommitsNothing : Expected → Type 0
+CommitsNothing expected =
+    (secret : Secret) (batches : List Batch) → IsCommitment expected secret batches → ⊥
+
 -- the batches that the owner of a key commits, or what is written in their place
 abbrev pub Prepares : Expected → Secret → Result (Vec Batch) Stop → Type 0
 Prepares expected secret (Ok batches) = IsCommitment expected secret batches.items

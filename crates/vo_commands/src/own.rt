@@ -11,7 +11,7 @@ ghost use Rattle.owner_journal.specs.Resting.{IsAtRest};
 ghost use Rattle.vo_words.specs.Shapes.{plain_shape};
 ghost use Rattle.vo_commands.specs.Expected.{script_limit, with_file, Anything, with_seed};
 ghost use Rattle.vo_commands.specs.Committing.{CanGoOn};
-ghost use Rattle.vo_commands.specs.Owning.{CommitsFrom, CommitsOnline, CommitsOver, OwnEnds, Prepares, commitment_expected, commitment_in};
+ghost use Rattle.vo_commands.specs.Owning.{CommitsFrom, CommitsNothing, CommitsOnline, CommitsOver, OwnEnds, Prepares, commitment_expected, commitment_in};
 ghost use Rattle.vo_commands.specs.Reports.{StaysInside};
 ghost use Rattle.vo_commands.specs.Taking.{TakesFiles, LeavesFiles, One, Along};
 
@@ -53,6 +53,9 @@ pub fn own<F: Shelf, D: Disk, N: Net, S: Sink>(
         (Along (λ known. with_seed known commitment.now.seed.now (plain_shape commitment.now.shape)
         (λ _. with_file known commitment.now.script.now script_limit (λ _. Anything)))) files.old
         files.new }
+    ensures refused { IfSome (F.contents files.old) (λ known. CommitsNothing (commitment_expected commitment.now.seed.now commitment.now.script.now
+        (plain_shape commitment.now.shape) known)
+        → (disk.new ≡ disk.old) × (net.new ≡ net.old)) }
 
     ensures outside { result ≡ 3
         → FaultRose (F.faults files.old) (F.faults files.new)
@@ -90,6 +93,9 @@ fn own_with_key<F: Shelf, D: Disk, N: Net, S: Sink>(
         (S.written out.old) (S.written out.new)) }
     ensures files { LeavesFiles F.contents F.faults F.misses (One commitment.now.script.now)
         files.old files.new }
+    ensures refused { IfSome (F.contents files.old) (λ known.
+        CommitsNothing (with_file known commitment.now.script.now script_limit (commitment_in key.now))
+        → (disk.new ≡ disk.old) × (net.new ≡ net.old)) }
 
     ensures outside { result ≡ 3
         → FaultRose (F.faults files.old) (F.faults files.new)

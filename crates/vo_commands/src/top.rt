@@ -5,7 +5,7 @@ ghost use Rattle.outside.specs.FaultRose.{FaultRose};
 ghost use Rattle.vo_words.specs.PlainRequest.{request_in};
 ghost use Rattle.vo_words.specs.Request.{plain_command};
 ghost use Rattle.vo_commands.specs.Expected.{Exactly, is_service, expected_of, command_expected, words_refusal, queue_of, connections_of, uses_disk, uses_net, writes_as_it_works, UsesNet, Ends, HoldsEach, file_words, files_expected, words_expected};
-ghost use Rattle.vo_commands.specs.Owning.{OwnEnds, own_expected};
+ghost use Rattle.vo_commands.specs.Owning.{CommitsNothing, OwnEnds, own_expected};
 ghost use Rattle.vo_commands.specs.Reports.{Answers, StaysInside, FailsOutside};
 ghost use Rattle.vo_commands.specs.Serving.{ServeEnds, serve_expected};
 ghost use Rattle.vo_commands.specs.Taking.{LacksFile, LeavesFiles, Along};
@@ -86,6 +86,10 @@ pub fn run<F: Shelf, D: Disk, N: Net, S: Sink>(
         → disk.new ≡ disk.old }
     ensures net { uses_net (request_in (map string_bytes words.now)) ≡ false
         → net.new ≡ net.old }
+    // So does `own` where the seed file or the script is refused, or isn't there.
+    ensures own_refused { IfSome (own_expected (request_in (map string_bytes words.now))
+        (F.contents files.old)) (λ expected. CommitsNothing expected
+        → (disk.new ≡ disk.old) × (net.new ≡ net.old)) }
     ensures asks { (before : ConnectionModel) → N.wire net.old ≡ Some before
         → UsesNet (request_in (map string_bytes words.now)) (F.contents files.old) before
         (N.wire net.new) }

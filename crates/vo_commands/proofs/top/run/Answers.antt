@@ -1,10 +1,11 @@
-use Rattle.std.proofs.Common.{◌≡◌, Some, IfSome, sym, ap, ◌∙◌, subst, option_map, map, string_bytes}
+use Rattle.std.proofs.Common.{◌≡◌, Some, IfSome, refl, sym, ap, ◌∙◌, subst, option_map, map, string_bytes}
 use Rattle.vo_words.specs.PlainRequest.{request_in}
-use Rattle.vo_words.specs.declared.request.Request.TheVariants.{Serve}
+use Rattle.vo_words.specs.declared.request.Request.TheVariants.{Own, Serve}
 use Rattle.vo_commands.specs.Expected.{words_expected}
+use Rattle.vo_commands.specs.Owning.{CommitsNothing}
 use Rattle.vo_commands.specs.Taking.{LacksFile}
 use Rattle.vo_words.specs.Request.{plain_command, plain_request}
-use Rattle.vo_commands.proofs.Endings.{asks_nothing, command_ends, ends_empty, own_ends_empty, serve_ends_empty}
+use Rattle.vo_commands.proofs.Endings.{asks_nothing, command_ends, ends_empty, left_as_it_was, own_ends_empty, serve_ends_empty}
 use Rattle.vo_commands.proofs.FilesThere.{none_missed}
 use Rattle.vo_commands.proofs.top.run.Goals as goal
 
@@ -47,3 +48,14 @@ returns-in-Ok-Some-Serve-clause-misses_in_order g c =
     sym (ap (option_map plain_request) some) ∙ c.in-Ok-Some-Serve.ensures in
     subst (λ request. IfSome (g.F.Shelf.contents c.args.files.now) (λ known. (LacksFile (words_expected request known) → ⊥)
     → g.F.Shelf.misses c.serve.new.files ≡ g.F.Shelf.misses c.args.files.now)) asked c.serve.ensures.files.missed
+
+pub returns-in-Err-clause-own_refused : goal.returns-in-Err-clause-own_refused
+returns-in-Err-clause-own_refused g c = left_as_it_was CommitsNothing _ (refl, refl)
+
+pub returns-in-Ok-Some-Own-clause-misses_in_order : goal.returns-in-Ok-Some-Own-clause-misses_in_order
+returns-in-Ok-Some-Own-clause-misses_in_order g c =
+    let some = c.in-Ok-Some-Own.field-0-is ∙ ap Some c.in-Ok-Some-Own.field-0-0-is in
+    let asked : option_map plain_request (Some (Own c.in-Ok-Some-Own.commitment)) ≡ request_in (map string_bytes c.args.words.now) =
+    sym (ap (option_map plain_request) some) ∙ c.in-Ok-Some-Own.ensures in
+    subst (λ request. IfSome (g.F.Shelf.contents c.args.files.now) (λ known. (LacksFile (words_expected request known) → ⊥)
+    → g.F.Shelf.misses c.own.new.files ≡ g.F.Shelf.misses c.args.files.now)) asked c.own.ensures.files.missed
