@@ -6,6 +6,7 @@ pub mod StoreSteps
 pub mod Requests
 pub mod CatchingUp
 pub mod Standings
+pub mod ServedSessions
 pub mod Sealing
 pub mod Commits
 pub mod Sessions

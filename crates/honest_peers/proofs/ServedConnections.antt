@@ -20,7 +20,7 @@ use Rattle.honest_peers.specs.Answering.{AreServed, bytes_put, frames_put, servi
 use Rattle.honest_peers.specs.Asking.{IsAsked, question}
 use Rattle.honest_peers.proofs.Trading.{AnswersEach, IsRequest, frame_long}
 
-abbrev serve : ℕ → StoreState → List ℕ → Script StoreState End
+abbrev pub serve : ℕ → StoreState → List ℕ → Script StoreState End
 serve turns s coming = serving_script reply_to next_after turns s coming
 
 nothing_first : first_frame Request [] ≡ Ended
@@ -28,7 +28,7 @@ unfolding first_frame
 nothing_first = refl
 
 -- nothing is put where nothing comes, and the store stays
-idle : (turns : ℕ) (s : StoreState) → (bytes_put (serve turns s []).events ≡ [])
+pub idle : (turns : ℕ) (s : StoreState) → (bytes_put (serve turns s []).events ≡ [])
     × (last_state s (others (serve turns s []).events) ≡ s)
 unfolding serving_script
 idle zero s = (refl, refl)
@@ -40,7 +40,7 @@ idle (suc turns) s =
     )
 
 -- a request that comes is answered
-answers_first : (turns : ℕ) (s : StoreState) (frame more : List ℕ) (k : FrameKind) (body : List ℕ)
+pub answers_first : (turns : ℕ) (s : StoreState) (frame more : List ℕ) (k : FrameKind) (body : List ℕ)
     (answer : KindAndBody) → IsRequest frame k body → reply_to s k body ≡ Some answer
     → serve (suc turns) s (frame ++ more)
     ≡ behind (Takes (5 + length body) ∷ Does (next_after s k body) ∷ Puts
@@ -106,7 +106,7 @@ some_answers s events few =
       record { few = few; comes = ([], sym (append-nil answers)); later_is = refl },
     )
 
-one_frame : 1 ≤ max_turns
+pub one_frame : 1 ≤ max_turns
 unfolding max_turns
 one_frame = lit≤ tt
 

@@ -53,14 +53,14 @@ fit_from zero es all = all
 fit_from (suc n) [] all = tt
 fit_from (suc n) (e ∷ es) all = fit_from n es all.1
 
-fit_at : (n : ℕ) (es : List Entry) (e : Entry) → AllByRecursion FitsEntry es
+pub fit_at : (n : ℕ) (es : List Entry) (e : Entry) → AllByRecursion FitsEntry es
     → slice_get es n ≡ Some e → FitsEntry e
 fit_at n [] e all found = absurd (cc)
 fit_at zero (f ∷ es) e all found = let same : f ≡ e = cc in subst FitsEntry same all.0
 fit_at (suc n) (f ∷ es) e all found = fit_at n es e all.1 found
 
 -- the batches of a front of the entries, and of the rest
-front_is : (es : List Entry) (front lacking : List (List Command))
+pub front_is : (es : List Entry) (front lacking : List (List Command))
     → batches_of es ≡ front ++ lacking
     → (batches_of (take (length front) es) ≡ front)
     × (batches_of (drop (length front) es) ≡ lacking)
@@ -77,7 +77,7 @@ front_is es front lacking same =
 
 -- The standing of a store, read by its owner.
 
-standing_long : (standing : Option Record) → IfSome standing FitsRecord
+pub standing_long : (standing : Option Record) → IfSome standing FitsRecord
     → IsTrue (is_length kind.Standing (length (standing_bytes standing)))
 unfolding standing_bytes
 standing_long None fits = refl
@@ -85,11 +85,11 @@ standing_long (Some rec) fits =
     let long : length (1 ∷ record_bytes rec) ≡ 61 = omega (arith, record_long rec fits) in
     subst (λ (n : ℕ). IsTrue (is_length kind.Standing n)) (sym long) refl
 
-place_read : (es : List Entry) (standing : Option Record) → IfSome standing FitsRecord
+pub place_read : (es : List Entry) (standing : Option Record) → IfSome standing FitsRecord
     → place_by es (standing_bytes standing) ≡ place_of_record es standing
 place_read es standing fits = ap (place_if_read es) (standing_again standing fits)
 
-place_held : (es : List Entry) (rec : Record) (e : Entry) → slice_get es rec.version ≡ Some e
+pub place_held : (es : List Entry) (rec : Record) (e : Entry) → slice_get es rec.version ≡ Some e
     → e.rec ≡ rec → place_of_record es (Some rec) ≡ Holds (rec.version + 1)
 place_held es rec e found same =
     ap (place_beside rec) found

@@ -18,5 +18,5 @@ pub use one_reading::{bytes_have_one_reading, honest_replies_have_one_answer};
 pub use owning::{
     owners_begin_plainly, owners_end_plainly, owners_reopen_plainly, sessions_end_plainly,
 };
-pub use serving::connections_are_served;
+pub use serving::{connections_are_served, sessions_are_served};
 pub use writing::owners_write_what_they_own;
