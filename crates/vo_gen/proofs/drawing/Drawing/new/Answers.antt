@@ -1,0 +1,7 @@
+use Rattle.std.proofs.Common.{arith}
+use Rattle.std.proofs.lemmas.Grind.{common_steps}
+use Rattle.vo_gen.proofs.Standing.{stands_none}
+use Rattle.vo_gen.proofs.drawing.Drawing.new.Goals as goal
+
+pub invariant_of-result : goal.invariant_of-result
+invariant_of-result c = grind (arith, common_steps, stands_none)
