@@ -8,7 +8,7 @@ use Rattle.vo_spec.specs.Ots.{step_text, advance, secret, randomizer, message_te
 use Rattle.lm_ots.proofs.Chaining.{advance_rest}
 use Rattle.vo_spec.specs.SecretTrees.{SecretTree}
 use Rattle.lms_forge.specs.Forgeries.{Forgery}
-use Rattle.lms_forge.specs.Shown.{one_time, forged_digits, last_digit, forged, shown_by, known}
+use Rattle.lms_forge.specs.Shown.{one_time, forged_digits, last_digit, forged_value, value_shown_by, known_value}
 use Rattle.lms_forge.specs.Places.{Place, above, leaf, public_key, message_digest, chain_step, AreOnWay, AreMessages, AreHashedAt}
 use Rattle.lms_forge.specs.Parts.{SameParts, PartsCompared}
 use Rattle.lms_forge.specs.Lowering.{own_digit, FirstLower, AreOthers, ReleasedCompared, own_digits_of}
@@ -54,7 +54,7 @@ module _ (f : Forgery) where
   same_steps : SameParts f.tree f.leaf (forged_digits f) f.signature → (i j : ℕ) (first second : List ℕ)
       → AreOnWay f.tree f.leaf (forged_digits f) f.signature (chain_step i j) first second → first ≡ second
   same_steps same i j first second (inside, low, high, first_is, second_is) =
-      let digit = (forged f i).0 in
+      let digit = (forged_value f i).0 in
       let start = secret f.tree.id f.leaf f.tree.seed i in
       first_is
       ∙ ap (λ (value : List ℕ). step_text f.tree.id f.leaf i j (advance f.tree.id f.leaf i digit (j - digit) value)) (same.values_own i inside)
@@ -97,25 +97,25 @@ module _ (f : Forgery) where
 
   -- what is known where this message was released, or none
   abbrev known_by : Option (List ℕ) → ℕ → ℕ × List ℕ
-  known_by released i = unwrap_or (option_map (shown_by f i) released) (last_digit f, public_end f.tree.id f.leaf f.tree.ots f.tree.seed i)
+  known_by released i = unwrap_or (option_map (value_shown_by f i) released) (last_digit f, public_end f.tree.id f.leaf f.tree.ots f.tree.seed i)
 
   known_digit : (released : Option (List ℕ)) (i : ℕ) → own_digit f.tree.ots (own_digits_of f.tree f.leaf released) i ≡ (known_by released i).0
   known_digit None i = refl
   known_digit (Some own) i = refl
 
-  known_value : (released : Option (List ℕ)) (i : ℕ)
+  value_at_digit : (released : Option (List ℕ)) (i : ℕ)
       → (known_by released i).1 ≡ advance f.tree.id f.leaf i 0 (known_by released i).0 (secret f.tree.id f.leaf f.tree.seed i)
-  known_value None i = refl
-  known_value (Some own) i = refl
+  value_at_digit None i = refl
+  value_at_digit (Some own) i = refl
 
   pub from_chain : (i : ℕ) (found : Option (List ℕ × List ℕ)) → SameParts f.tree f.leaf (forged_digits f) f.signature
       → is_some found ≡ false → ReleasedCompared f.tree f.leaf random f.message f.released found
       → FirstLower f.tree.ots (forged_digits f) (own_digits_of f.tree f.leaf f.released) i
-      → (step : ℕ) (bytes : List ℕ) → step ≡ (forged f i).0 → bytes ≡ (forged f i).1
+      → (step : ℕ) (bytes : List ℕ) → step ≡ (forged_value f i).0 → bytes ≡ (forged_value f i).1
       → IsFromChain f f.level f.leaf i step bytes
   from_chain i found same none compared first step bytes step_is bytes_are =
-      let digit = (forged f i).0 in
-      let last = (known f i).0 in
+      let digit = (forged_value f i).0 in
+      let last = (known_value f i).0 in
       let start = secret f.tree.id f.leaf f.tree.seed i in
       let lower : digit < last = subst (λ n. digit < n) (known_digit f.released i) first.lower in
       record {
@@ -128,9 +128,9 @@ module _ (f : Forgery) where
           before = lower;
           leads = ap (advance f.tree.id f.leaf i digit (last - digit)) (same.values_own i first.inside)
               ∙ advance_rest f.tree.id f.leaf i digit last start (omega arith)
-              ∙ sym (known_value f.released i);
+              ∙ sym (value_at_digit f.released i);
         };
-        earliest = λ k below lower. first.earliest k below (subst (λ n. (forged f k).0 < n) (sym (known_digit f.released k)) lower);
+        earliest = λ k below lower. first.earliest k below (subst (λ n. (forged_value f k).0 < n) (sym (known_digit f.released k)) lower);
         none_collide = λ first second at. none_at same (messages_apart f.released found none compared) at.0 first second at.1 at.2;
       }
 

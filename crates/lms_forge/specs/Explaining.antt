@@ -7,18 +7,18 @@ use Rattle.lms_forge.specs.declared.explanation.Explanation.{Explanation}
 use Rattle.lms_forge.specs.declared.explanation.Explanation.TheVariants.{Collides as Collide, Chain}
 use Rattle.lms_forge.specs.Forgeries.{Forgery}
 use Rattle.lms_forge.specs.Places.{Place, AreHashedAt}
-use Rattle.lms_forge.specs.Shown.{forged, known}
+use Rattle.lms_forge.specs.Shown.{forged_value, known_value}
 
 -- The forged signature has a value of chain i from before the known step, which leads to the value
 -- known there.
 pub record LeadsTo (f : Forgery) (i : ℕ) : Type 0 where
-  pub before : (forged f i).0 < (known f i).0
-  pub leads : advance f.tree.id f.leaf i (forged f i).0 ((known f i).0 - (forged f i).0)
-      (forged f i).1 ≡ (known f i).1
+  pub before : (forged_value f i).0 < (known_value f i).0
+  pub leads : advance f.tree.id f.leaf i (forged_value f i).0 ((known_value f i).0 - (forged_value f i).0)
+      (forged_value f i).1 ≡ (known_value f i).1
 
 -- It has no such value of a chain before chain i.
 abbrev pub IsEarliest : Forgery → ℕ → Type 0
-IsEarliest f i = (k : ℕ) → k < i → (forged f k).0 < (known f k).0 → ⊥
+IsEarliest f i = (k : ℕ) → k < i → (forged_value f k).0 < (known_value f k).0 → ⊥
 
 -- The two strings collide, and are hashed at one place.
 abbrev pub CollideAtPlace : Forgery → List ℕ → List ℕ → Type 0
@@ -33,8 +33,8 @@ pub record IsFromChain (f : Forgery) (level leaf chain step : ℕ) (bytes : List
   pub level_is : level ≡ f.level
   pub leaf_is : leaf ≡ f.leaf
   pub chain_in : chain < count_of f.tree.ots
-  pub step_is : step ≡ (forged f chain).0
-  pub bytes_are : bytes ≡ (forged f chain).1
+  pub step_is : step ≡ (forged_value f chain).0
+  pub bytes_are : bytes ≡ (forged_value f chain).1
   pub leads_to : LeadsTo f chain
   pub earliest : IsEarliest f chain
   pub none_collide : NoneCollide f

@@ -24,24 +24,24 @@ abbrev pub last_digit : Forgery → ℕ
 last_digit f = 2 ^ width_of f.tree.ots - 1
 
 -- what the forged signature has of chain i
-abbrev pub forged : Forgery → ℕ → ℕ × List ℕ
-forged f i = (
+abbrev pub forged_value : Forgery → ℕ → ℕ × List ℕ
+forged_value f i = (
   coef (forged_digits f) i (width_of f.tree.ots),
   digest_at (one_time f) (36 + 32 * i),
 )
 
 -- what the owner's signature of this message shows of chain i
-abbrev pub shown_by : Forgery → ℕ → List ℕ → ℕ × List ℕ
-shown_by f i message = (
+abbrev pub value_shown_by : Forgery → ℕ → List ℕ → ℕ × List ℕ
+value_shown_by f i message = (
   coef (own_digits f message) i (width_of f.tree.ots),
   signed_value f.tree.id f.leaf f.tree.ots f.tree.seed (own_digits f message) i,
 )
 
 -- what the owner's signature by the leaf shows of chain i, or nothing where it made none
-abbrev pub shown : Forgery → ℕ → Option (ℕ × List ℕ)
-shown f i = option_map (shown_by f i) f.released
+abbrev pub shown_value : Forgery → ℕ → Option (ℕ × List ℕ)
+shown_value f i = option_map (value_shown_by f i) f.released
 
 -- what is known of chain i: what was shown, or the end, which the public key has
-abbrev pub known : Forgery → ℕ → ℕ × List ℕ
-known f i = unwrap_or (shown f i)
+abbrev pub known_value : Forgery → ℕ → ℕ × List ℕ
+known_value f i = unwrap_or (shown_value f i)
     (last_digit f, public_end f.tree.id f.leaf f.tree.ots f.tree.seed i)

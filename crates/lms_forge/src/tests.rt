@@ -41,7 +41,7 @@ struct Own<'a> {
 }
 
 /// The step and the value of chain `i` that the owner's signature shows, or the end of the chain.
-fn known(tree: &SecretTree, leaf: u32, i: u16, own: Option<Own<'_>>) -> (u32, Digest) {
+fn known_value(tree: &SecretTree, leaf: u32, i: u16, own: Option<Own<'_>>) -> (u32, Digest) {
     let ots = tree.ots();
     let last = (1 << ots.width()) - 1;
     let start = secret(tree.id(), leaf, i, tree.seed());
@@ -79,7 +79,7 @@ fn is_chain(
                 bytes,
             },
         ) => {
-            let (last, value) = known(tree, leaf, *i, own);
+            let (last, value) = known_value(tree, leaf, *i, own);
             let from = u32::from(*step);
             *of_level == level
                 && *of_leaf == leaf

@@ -11,7 +11,7 @@ use Rattle.vo_words.specs.Shapes.{PlainShape}
 use Rattle.vo_words.specs.PlainRequest.{PlainRequest, Keygen, Seal, Own, Answer, Serve, Check, Ask, Audit, Explain, Meet}
 use Rattle.vo_spec.specs.Keys.{is_public_key}
 use Rattle.vo_commands.specs.Lines.{input_refusal, success}
-use Rattle.vo_commands.specs.Expected.{Expected, Anything, Exactly, Explains, OfScript, HoldsEach, file_words, files_of_request, files_expected, explained, sealed_output, script_expected, script_limit, seal_output, seed_limit, secret_in, with_contents, with_file, with_public, with_secret, words_expected}
+use Rattle.vo_commands.specs.Expected.{Expected, Anything, Exactly, Explains, OfScript, HoldsEach, file_words, files_of_request, files_expected, with_same_key, sealed_output, script_expected, script_limit, seal_output, seed_limit, secret_in, with_contents, with_file, with_public, with_secret, words_expected}
 use Rattle.vo_commands.specs.Taking.{LacksFile}
 
 -- it isn't what is written of a fault of the outside
@@ -71,7 +71,7 @@ request_lacks_none (Audit key journal query reply) known all =
     there _ _ _ _ all.0 (public _ (λ k. there _ _ _ _ all.1.0 (λ bytes lacks. there _ _ _ _ all.1.1.0 (λ bytes lacks. lacks) lacks.2)))
 request_lacks_none (Explain key journal query reply seed shape) known all =
     there _ _ _ _ all.0 (public _ (λ k. there _ _ _ _ all.1.0 (λ j lacks. there _ _ _ _ all.1.1.0
-    (λ r. there _ _ _ _ all.1.1.1.0 (secret shape (explained k (λ s. Explains s j lacks.0 r))
+    (λ r. there _ _ _ _ all.1.1.1.0 (secret shape (with_same_key k (λ s. Explains s j lacks.0 r))
     (λ s. tested (bytes_eq (public_of_secret s) k) (codes "seed of another key" ∷ []) (Explains s j lacks.0 r) (λ lacks. lacks))))
     lacks.2)))
 request_lacks_none (Meet key query first second) known all =

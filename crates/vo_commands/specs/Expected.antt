@@ -256,8 +256,8 @@ audit_expected key journal query reply files =
     with_file files reply reply_limit (λ r. Audits k j q r))))
 
 -- an audit by the seed of this key, which another key's seed is refused for
-abbrev pub explained : List ℕ → (Secret → Expected) → Secret → Expected
-explained key rest secret =
+abbrev pub with_same_key : List ℕ → (Secret → Expected) → Secret → Expected
+with_same_key key rest secret =
     if bytes_eq (public_of_secret secret) key then rest secret
     else Exactly (input_refusal (codes "seed of another key" ∷ []))
 
@@ -266,7 +266,7 @@ abbrev pub explain_expected : (key journal query reply seed : List ℕ) → Plai
 explain_expected key journal query reply seed shape files =
     with_key files key (λ k. with_file files journal journal_limit (λ j. OfQuery query (λ q.
     with_file files reply reply_limit (λ r. with_seed files seed shape
-    (explained k (λ secret. Explains secret j q r))))))
+    (with_same_key k (λ secret. Explains secret j q r))))))
 
 abbrev pub meet_expected : List ℕ → List ℕ → List ℕ → List ℕ → Files → Expected
 meet_expected key query first second files =

@@ -8,7 +8,7 @@ ghost use Rattle.vo_spec.specs.Journals.{IsJournal};
 ghost use Rattle.vo_spec.specs.Secret.{Secret, public_of_secret};
 ghost use Rattle.vo_spec.specs.Keys.{leaf_of, lms_valid};
 ghost use Rattle.vo_spec.specs.Records.{record_bytes};
-ghost use Rattle.vo_commands.specs.Expected.{explain_expected, explained, records_of, OfQuery, with_file, with_seed, reply_limit, Explains, IsToldToOwner};
+ghost use Rattle.vo_commands.specs.Expected.{explain_expected, with_same_key, records_of, OfQuery, with_file, with_seed, reply_limit, Explains, IsToldToOwner};
 ghost use Rattle.vo_commands.specs.Lines.{audit_output};
 ghost use Rattle.vo_commands.specs.Reports.{Answers, StaysInside, output_of};
 ghost use Rattle.vo_commands.specs.Taking.{TakesFiles, One, Along};
@@ -63,11 +63,11 @@ fn explain_query<F: Shelf>(
         (λ known. Answers (OfQuery audit.now.query.now
         (λ q. with_file known audit.now.reply.now reply_limit
         (λ bytes. with_seed known audit.now.seed.now (plain_shape audit.now.shape)
-        (explained key.now (λ secret. Explains secret journal.now q bytes))))) result) }
+        (with_same_key key.now (λ secret. Explains secret journal.now q bytes))))) result) }
     ensures files { TakesFiles F.contents F.faults F.misses (Along (λ known.
         OfQuery audit.now.query.now (λ q. with_file known audit.now.reply.now reply_limit
         (λ bytes. with_seed known audit.now.seed.now (plain_shape audit.now.shape)
-        (explained key.now (λ secret. Explains secret journal.now q bytes)))))) files.old files.new
+        (with_same_key key.now (λ secret. Explains secret journal.now q bytes)))))) files.old files.new
         result }
 {
     let query = query_in(alloc, audit.query)?;
@@ -89,12 +89,12 @@ fn explain_files<F: Shelf>(
     ensures known { IfSome (F.contents files.old)
         (λ known. Answers (with_file known audit.now.reply.now reply_limit
         (λ bytes. with_seed known audit.now.seed.now (plain_shape audit.now.shape)
-        (explained key.now (λ secret. Explains secret journal.now (query_of query.now) bytes))))
+        (with_same_key key.now (λ secret. Explains secret journal.now (query_of query.now) bytes))))
         result) }
     ensures files { TakesFiles F.contents F.faults F.misses (Along (λ known.
         with_file known audit.now.reply.now reply_limit
         (λ bytes. with_seed known audit.now.seed.now (plain_shape audit.now.shape)
-        (explained key.now (λ secret. Explains secret journal.now (query_of query.now) bytes)))))
+        (with_same_key key.now (λ secret. Explains secret journal.now (query_of query.now) bytes)))))
         files.old files.new result }
 {
     let reply = take_file(alloc, files, audit.reply, REPLY_LIMIT)?;
@@ -111,7 +111,7 @@ fn explain_reply(
     reply: &[u8],
     secret: &SecretKey,
 ) -> Result<Report, Stop>
-    ensures known { Answers (explained key.now
+    ensures known { Answers (with_same_key key.now
         (λ secret. Explains secret journal.now (query_of query.now) reply.now) secret.now) result }
     ensures inside { StaysInside result }
 {
