@@ -1,2 +1,4 @@
 pub mod Standing
 pub mod Sizes
+pub mod Rows
+pub mod Accepted

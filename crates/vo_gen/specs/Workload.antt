@@ -1,10 +1,11 @@
 -- The workload of n steps, by the words of a generator: batches of commands on one table, and
 -- queries of it. Two words make a step, and two a query.
-use Rattle.std.specs.Prelude.{ℕ, zero, suc, ◌+◌, ◌-◌, ◌*◌, ◌/◌, ◌%◌, min, pos, Bool, false, not, ◌&&◌, ◌==◌, if◌then◌else◌, List, [], ◌∷◌, ◌++◌, map, codes, decimal, Some, None}
+use Rattle.std.specs.Prelude.{◌≡◌, ℕ, zero, suc, ◌+◌, ◌-◌, ◌*◌, ◌/◌, ◌%◌, ◌<◌, min, pos, Bool, false, not, ◌&&◌, ◌==◌, if◌then◌else◌, List, [], ◌∷◌, ◌++◌, map, codes, decimal, Some, None}
 use Rattle.std.specs.List.{range_with_len}
 use Rattle.vo_spec.specs.declared.values.Kind.TheVariants as kind
 use Rattle.vo_spec.specs.declared.values.Value.{Value}
 use Rattle.vo_spec.specs.declared.values.Value.TheVariants.{Int, Text}
+use Rattle.vo_spec.specs.declared.values.Row.{Row}
 use Rattle.vo_spec.specs.declared.tables.Batch.{Batch}
 use Rattle.vo_spec.specs.declared.tables.Command.{Command}
 use Rattle.vo_spec.specs.declared.tables.Command.TheVariants.{Create, Insert, Update, Delete}
@@ -16,6 +17,7 @@ use Rattle.vo_spec.specs.declared.queries.Operand.TheVariants.{Literal}
 use Rattle.vo_spec.specs.declared.queries.Cond.{Cond}
 use Rattle.vo_spec.specs.declared.queries.Cond.TheVariants.{All, Test}
 use Rattle.vo_spec.specs.declared.queries.QueryText.{QueryText}
+use Rattle.vo_spec.specs.Values.{key_of}
 use Rattle.vo_gen.specs.declared.steps.Step.{Step}
 use Rattle.vo_gen.specs.declared.steps.Step.TheVariants as step_as
 use Rattle.vo_gen.specs.Words.{key_of_number, word_of}
@@ -159,6 +161,14 @@ batches_of word n = record { commands = creation ∷ [] }
 -- The queries behind n steps.
 unfoldable pub queries_of : (ℕ → ℕ) → ℕ → List QueryText
 queries_of word n = map (query word (keys_for n) n) (range_with_len 0 query_count)
+
+-- the commands of each batch
+abbrev pub commands_of : List Batch → List (List Command)
+commands_of = map (λ (b : Batch). b.commands)
+
+-- the row is of a key below this number
+abbrev pub IsNumbered : ℕ → Row → Type 0
+IsNumbered keys row = (key : ℕ) × (key < keys) × (row.key ≡ key_of (number key))
 
 -- The workload of a number.
 

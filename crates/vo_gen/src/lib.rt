@@ -9,6 +9,7 @@ ghost use Rattle.vo_gen.specs.Workload.{max_steps, batches, queries};
 
 mod batches;
 mod drawing;
+mod laws;
 mod queries;
 mod steps;
 mod words;
@@ -16,6 +17,7 @@ mod words;
 use crate::batches::batches;
 use crate::drawing::Drawing;
 use crate::queries::queries;
+pub use laws::workloads_are_accepted;
 use std::alloc::{AllocError, Global};
 use vo_spec::{Batch, List, QueryText};
 
