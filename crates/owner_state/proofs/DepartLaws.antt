@@ -1,6 +1,6 @@
 -- The honest trees beside an owner's entries, and where the roots depart from them.
 use Rattle.std.proofs.Math.Seq.{take-nil}
-use Rattle.std.proofs.Common.{◌≡◌, ℕ, zero, suc, ◌+◌, ◌-◌, ◌<◌, ◌≤◌, add-one, List, [], ◌∷◌, ◌++◌, Option, Some, None, Ok, length, take, refl, sym, ap, ◌∙◌, subst, inl, inr, arith}
+use Rattle.std.proofs.Common.{◌≡◌, ℕ, zero, suc, ◌+◌, ◌-◌, ◌<◌, ◌≤◌, add-one, List, [], ◌∷◌, ◌++◌, Option, Some, None, Ok, length, take, drop, refl, sym, ap, ◌∙◌, subst, inl, inr, arith}
 use Rattle.std.specs.Prelude.{◌≢◌, slice_get, IfSome}
 use Rattle.std.proofs.lemmas.Bool.Decides.{leb_tells}
 use Rattle.std.proofs.lemmas.List.{length-append, length-take-le, map-append}
@@ -42,6 +42,11 @@ trees_of v (x ∷ xs) empty =
     ap (λ (n : ℕ). honest_trees (batches_of (take n (x ∷ xs)))) (add-one v)
     ∙ ap (λ (batch : List Command). honest_trees (batch ∷ batches_of (take v xs))) empty
     ∙ no_trees_before (batches_of (take v xs))
+
+-- behind the entry of a version they are those of its trees
+pub first_trees : (v : ℕ) (es : List Entry) → honest_trees (batches_of (drop 1 (take (v + 1) es))) ≡ trees_at v es
+first_trees v [] = ap (λ (xs : List Entry). honest_trees (batches_of (drop 1 xs))) (take-nil (v + 1)) ∙ ap (λ (xs : List Entry). honest_trees (batches_of xs)) (sym (take-nil v))
+first_trees v (x ∷ xs) = ap (λ (n : ℕ). honest_trees (batches_of (drop 1 (take n (x ∷ xs))))) (add-one v)
 
 abbrev with_catalog : ℕ → Catalog → Roots
 with_catalog v c = record { version = v; catalog = c }

@@ -1,5 +1,6 @@
 -- What a walk over entries finds.
 use Rattle.std.specs.Prelude.{◌≡◌, ℕ, ◌+◌, ◌<◌, List, length, take, Option, Some, None}
+use Rattle.vo_spec.specs.Journals.{last_version}
 use Rattle.vo_spec.specs.declared.records.Entry.{Entry}
 use Rattle.vo_spec.specs.Honest.{Stored}
 use Rattle.owner_state.specs.declared.slot_reading.Ending.{Ending}
@@ -20,3 +21,8 @@ pub record StopsAt (Are : List Entry → Type 0) (es : List Entry) (index : ℕ)
 abbrev pub IsWhole : List Entry → Ending → Type 0
 IsWhole es (Closed at) = 0 < length es
 IsWhole es (Damaged at) = ⊥
+
+-- the version that is asked for, or that of the last entry
+abbrev pub version_in : Option ℕ → List Entry → ℕ
+version_in None es = last_version es
+version_in (Some version) es = version

@@ -1,11 +1,9 @@
 //! Journals whose entries an owner has written, or a store takes.
-ghost use Rattle.std.specs.Prelude.{◌≡◌, ◌↔◌, ◌<◌, ℕ, List, Err, IfOk, IfSome, IsSome, IsTrue, drop, length};
-ghost use Rattle.vo_spec.specs.Journals.{batches_of};
-ghost use Rattle.vo_spec.specs.Honest.{honest_trees};
+ghost use Rattle.std.specs.Prelude.{◌≡◌, ◌↔◌, ◌<◌, ℕ, List, Err, IfOk, IfSome, IsSome, IsTrue, length};
 ghost use Rattle.vo_spec.specs.Owners.{IsLoadable, IsUnloadableAt};
 ghost use Rattle.owner_roots.specs.Owners.{IsBadAt, IsOwned};
 ghost use Rattle.owner_state.specs.Departing.{Departs, trees_at};
-ghost use Rattle.owner_state.specs.Walking.{IsWhole};
+ghost use Rattle.owner_state.specs.Walking.{IsWhole, version_in};
 
 use crate::departures::Departure;
 use crate::lent_entry::LentEntry;
@@ -49,11 +47,12 @@ pub struct OwnedJournal<'b> {
     pub departure: Option<Departure>,
 }
 
-/// A journal that a store takes, and its tables after the last entry.
+/// A journal that a store takes, and the tables of the version that was asked for, or of the last.
 #[derive(Drop)]
 pub struct LoadableJournal<'b> {
     pub entries: List<LentEntry<'b>>,
-    pub tables: StoredTables,
+    /// None where the journal has no such version.
+    pub tables: Option<StoredTables>,
 }
 
 /// Reads the journal of an owner of the key.
@@ -89,20 +88,36 @@ pub fn read_loadable<'b>(
     alloc: Global,
     key: &PublicKey,
     journal: &'b [u8],
+    version: Option<u64>,
 ) -> Result<LoadableJournal<'b>, JournalFault>
     ensures taken { IfOk result (λ read. IsLoadable key.now journal.now read.entries) }
-    ensures tables { IfOk result (λ read. read.tables
-        ≡ honest_trees (batches_of (drop 1 read.entries))) }
+    ensures tables { IfOk result (λ read. IfSome read.tables (λ tables.
+        tables ≡ trees_at (version_in version read.entries) read.entries)) }
+    ensures there { IfOk result (λ read.
+        version_in version read.entries < length read.entries → IsSome read.tables) }
+    ensures only { IfOk result (λ read.
+        IsSome read.tables → version_in version read.entries < length read.entries) }
     ensures bad { (index : ℕ) → result ≡ Err (JournalFault.BadAt index)
         → IsUnloadableAt key.now journal.now index }
 {
     let slots = read_slots(alloc, journal)?;
-    let tables = walk_loadable(alloc, key, slots.entries.as_slice())?;
+    let version = version_in(version, slots.entries.as_slice());
+    let tables = walk_loadable(alloc, key, slots.entries.as_slice(), version)?;
     if !is_whole(&slots) {
         return Err(end_fault(&slots));
     }
     let entries = slots.entries;
     Ok(LoadableJournal { entries, tables })
+}
+
+/// The version that is asked for, or that of the last entry.
+fn version_in(version: Option<u64>, entries: &[LentEntry<'_>]) -> u64
+    ensures { result ≡ version_in version entries.now }
+{
+    match version {
+        Some(version) => version,
+        None => (entries.len() as u64).saturating_sub(1),
+    }
 }
 
 /// Whether a journal has entries, and a closed gate behind them.

@@ -43,4 +43,4 @@ pub use sealing::{SealFault, seal};
 pub use slot_reading::{Ending, Slots, read_slots};
 pub use steps::Step;
 pub use vo_spec::Entry;
-pub use walks::walk_loadable;
+pub use walks::check_next_of_store;

@@ -18,20 +18,24 @@ use owner_roots::Roots;
 use std::alloc::{AllocError, Global};
 use stored_tables::StoredTables;
 
-/// The tables behind the entries, as far as a store takes them.
-pub fn walk_loadable(
+/// The tables behind the entry of this number, if it is there, as far as a store takes the entries.
+pub(crate) fn walk_loadable(
     alloc: Global,
     key: &PublicKey,
     entries: &[LentEntry<'_>],
-) -> Result<StoredTables, JournalFault>
+    version: u64,
+) -> Result<Option<StoredTables>, JournalFault>
     requires { AllByRecursion FitsEntry entries.now }
     ensures taken { IfOk result (λ _. AreLoadable key.now entries.now) }
-    ensures tables { IfOk result (λ tables. tables
-        ≡ honest_trees (batches_of (drop 1 entries.now))) }
+    ensures tables { IfOk result (λ kept.
+        IfSome kept (λ tables. tables ≡ trees_at version entries.now)) }
+    ensures there { IfOk result (λ kept. version < length entries.now → IsSome kept) }
+    ensures only { IfOk result (λ kept. IsSome kept → version < length entries.now) }
     ensures bad { (index : ℕ) → result ≡ Err (JournalFault.BadAt index)
         → StopsAt (AreLoadable key.now) entries.now index }
 {
     let mut tables = StoredTables::new(alloc);
+    let mut kept = None;
     for (index, entry) in entries.iter().enumerate() {
         match check_next_of_store(alloc, key, &entries[..index], tables, entry)? {
             Some(after) => tables = after,
@@ -40,12 +44,13 @@ pub fn walk_loadable(
                 return Err(JournalFault::BadAt { index });
             }
         }
+        keep_tables(alloc, &mut kept, &tables, index as u64, version)?;
     }
-    Ok(tables)
+    Ok(kept)
 }
 
 /// The tables behind an entry, if a store takes it behind those before.
-fn check_next_of_store(
+pub fn check_next_of_store(
     alloc: Global,
     key: &PublicKey,
     earlier: &[LentEntry<'_>],

@@ -1,25 +1,26 @@
 -- What the calls give, by a store's fields.
-use Rattle.std.proofs.Common.{◌≡◌, ℕ, true, false, cond, List, Option, Some, None, Result, Ok, Err, refl, sym, ap, subst, ◌∙◌}
-use Rattle.std.specs.Prelude.{is_none, IsSome}
+use Rattle.std.proofs.Common.{◌≡◌, ℕ, ◌-◌, ◌≤◌, Bool, true, false, cond, List, Option, Some, None, Result, Ok, Err, refl, sym, ap, subst, ◌∙◌}
+use Rattle.std.specs.Prelude.{◌&&◌, is_none, nat_le, IsSome}
 use Rattle.std.specs.Option.{option_map_or}
+use Rattle.std.proofs.lemmas.Bool.{and_from, and_parts, le-leb, leb-true}
 use Rattle.vo_spec.specs.declared.tables.Command.{Command}
 use Rattle.vo_spec.specs.declared.tables.CommandFault.{CommandFault}
 use Rattle.vo_spec.specs.declared.records.Record.{Record}
 use Rattle.vo_spec.specs.Batches.{FitsBatch}
 use Rattle.vo_spec.specs.Conditions.{Query}
 use Rattle.vo_spec.specs.Firsts.{and_then}
-use Rattle.vo_spec.specs.Replies.{proofs_bytes, reply_bytes}
-use Rattle.vo_spec.specs.Honest.{Stored, honest_proofs, honest_record, honest_reply}
+use Rattle.vo_spec.specs.Replies.{proofs_bytes}
+use Rattle.vo_spec.specs.Honest.{Stored, honest_proofs, honest_record}
 use Rattle.stored_tables.specs.Working.{work_from}
 use Rattle.vo_store.specs.declared.fault.StoreFault.{StoreFault}
 use Rattle.vo_store.specs.declared.fault.StoreFault.TheVariants as fault
 use Rattle.vo_store.specs.declared.signed_record.SignedRecord.{SignedRecord}
-use Rattle.vo_store.specs.StoreState.{StoreState, with_installed, with_pending}
+use Rattle.vo_store.specs.StoreState.{StoreState, oldest_of, with_installed, with_pending}
 use Rattle.owner_state.proofs.WorkTurns.{work_done}
 use Rattle.vo_store.specs.HonestStores.{IsHonestStore}
 use Rattle.vo_store.proofs.HonestLaws.{installed_honest, proposed_honest}
 use Rattle.vo_store.proofs.InstallLaws.{good_only}
-use Rattle.vo_store.specs.Calls.{Gives, answer_of, install_of, next_version, proposal_of, signed_record, with_proofs, within_limit}
+use Rattle.vo_store.specs.Calls.{Gives, answer_at_of, answer_of, install_of, kept_at, next_version, proposal_of, reply_by_kept, reply_of_version, signed_reply, signed_record, with_proofs}
 
 -- a fault is handed on
 pub fault_on : {X Y Z W : Type 0} (view : X → Y) (other : Z → W) (go : Y → Result W StoreFault) (why : StoreFault) (answer : Result Y StoreFault) → Gives view (Err why) answer
@@ -31,18 +32,79 @@ fault_on view other go (fault.WrongRecord want got) answer g = ap (and_then go) 
 fault_on view other go fault.BadSignature answer g = ap (and_then go) g
 fault_on view other go (fault.TooLarge size) answer g = ap (and_then go) g
 fault_on view other go fault.Empty answer g = ap (and_then go) g
+fault_on view other go (fault.NoVersion version oldest newest) answer g = ap (and_then go) g
 
 module _ (s : StoreState) where
   -- Queries.
 
-  pub answer_some : (q : Query) (installed : SignedRecord) → s.installed ≡ Some installed → within_limit (reply_bytes (honest_reply q installed.rec installed.signature s.tables)) ≡ answer_of s q
+  pub answer_some : (q : Query) (installed : SignedRecord) → s.installed ≡ Some installed → signed_reply q installed s.tables ≡ answer_of s q
   unfolding answer_of
-  answer_some q installed e =
-      sym (ap (λ (o : Option SignedRecord). option_map_or (λ (x : SignedRecord). within_limit (reply_bytes (honest_reply q x.rec x.signature s.tables))) o (Err fault.Empty)) e)
+  answer_some q installed e = sym (ap (λ (o : Option SignedRecord). option_map_or (λ (x : SignedRecord). signed_reply q x s.tables) o (Err fault.Empty)) e)
 
   pub answer_none : (q : Query) → s.installed ≡ None → answer_of s q ≡ Err fault.Empty
   unfolding answer_of
-  answer_none q e = ap (λ (o : Option SignedRecord). option_map_or (λ (x : SignedRecord). within_limit (reply_bytes (honest_reply q x.rec x.signature s.tables))) o (Err fault.Empty)) e
+  answer_none q e = ap (λ (o : Option SignedRecord). option_map_or (λ (x : SignedRecord). signed_reply q x s.tables) o (Err fault.Empty)) e
+
+  -- Queries of a version.
+
+  module _ (q : Query) (version : ℕ) where
+    abbrev answer_by : Option SignedRecord → Result (List ℕ) StoreFault
+    answer_by o = option_map_or (reply_of_version q version s) o (Err fault.Empty)
+
+    abbrev replies_by : SignedRecord → Bool → Result (List ℕ) StoreFault
+    replies_by e b = cond b (reply_by_kept q (kept_at s.earlier e s.tables (version - oldest_of e.rec.version)))
+        (Err (fault.NoVersion version (oldest_of e.rec.version) e.rec.version))
+
+    abbrev kept_test : SignedRecord → Bool
+    kept_test e = nat_le (oldest_of e.rec.version) version && nat_le version e.rec.version
+
+    pub version_none : s.installed ≡ None → answer_at_of s version q ≡ Err fault.Empty
+    unfolding answer_at_of
+    version_none e = ap answer_by e
+
+    pub version_kept : (installed : SignedRecord) → s.installed ≡ Some installed → oldest_of installed.rec.version ≤ version → version ≤ installed.rec.version
+        → reply_by_kept q (kept_at s.earlier installed s.tables (version - oldest_of installed.rec.version)) ≡ answer_at_of s version q
+    unfolding answer_at_of
+    version_kept installed e above below =
+        sym (ap answer_by e ∙ ap (replies_by installed) (and_from _ _ (le-leb (oldest_of installed.rec.version) version above) (le-leb version installed.rec.version below)))
+
+    pub version_not_kept : (installed : SignedRecord) → s.installed ≡ Some installed → (oldest_of installed.rec.version ≤ version → version ≤ installed.rec.version → ⊥)
+        → answer_at_of s version q ≡ Err (fault.NoVersion version (oldest_of installed.rec.version) installed.rec.version)
+    unfolding answer_at_of
+    version_not_kept installed e outside = ap answer_by e ∙ ap (replies_by installed) (other (kept_test installed) refl)
+      where
+        other : (b : Bool) → kept_test installed ≡ b → kept_test installed ≡ false
+        other false t = t
+        other true t =
+            let both = and_parts _ _ t in
+            absurd (outside (leb-true (oldest_of installed.rec.version) version both.0) (leb-true version installed.rec.version both.1))
+
+    pub record AnswersAt (bytes : List ℕ) : Type 0 where
+      pub installed : SignedRecord
+      pub there : s.installed ≡ Some installed
+      pub above : oldest_of installed.rec.version ≤ version
+      pub below : version ≤ installed.rec.version
+      pub reply : reply_by_kept q (kept_at s.earlier installed s.tables (version - oldest_of installed.rec.version)) ≡ Ok bytes
+
+    pub answers_at : (bytes : List ℕ) → answer_at_of s version q ≡ Ok bytes → AnswersAt bytes
+    unfolding answer_at_of
+    answers_at bytes e = step s.installed refl e
+      where
+        inner : (installed : SignedRecord) → s.installed ≡ Some installed → (b : Bool) → kept_test installed ≡ b → replies_by installed b ≡ Ok bytes → AnswersAt bytes
+        inner installed i false t f = absurd (cc)
+        inner installed i true t f =
+            let both = and_parts _ _ t in
+            record {
+              installed = installed;
+              there = i;
+              above = leb-true (oldest_of installed.rec.version) version both.0;
+              below = leb-true version installed.rec.version both.1;
+              reply = f;
+            }
+
+        step : (o : Option SignedRecord) → s.installed ≡ o → answer_by o ≡ Ok bytes → AnswersAt bytes
+        step None i f = absurd (cc)
+        step (Some installed) i f = inner installed i (kept_test installed) refl f
 
   -- Proposals.
 

@@ -1,6 +1,7 @@
 -- What every store keeps, call by call.
-use Rattle.std.proofs.Common.{◌≡◌, ℕ, ◌+◌, ◌<◌, ◌≤◌, ◌^◌, List, [], ◌∷◌, ◌++◌, Option, Some, None, Result, Ok, length, refl, sym, ap, subst, ◌∙◌, arith}
+use Rattle.std.proofs.Common.{◌≡◌, ℕ, ◌+◌, ◌-◌, ◌<◌, ◌≤◌, ◌^◌, List, [], ◌∷◌, ◌++◌, Option, Some, None, Result, Ok, length, take, refl, sym, ap, subst, ◌∙◌, arith}
 use Rattle.std.specs.Prelude.{IsSome}
+use Rattle.std.specs.List.{AllByRecursion}
 use Rattle.std.specs.Result.{result_unwrap_or}
 use Rattle.std.proofs.lemmas.List.{length-append}
 use Rattle.vo_spec.specs.declared.tables.Command.{Command}
@@ -13,17 +14,19 @@ use Rattle.vo_spec.specs.Honest.{Stored, after_work, honest_record, honest_trees
 use Rattle.vo_laws.proofs.ListLaws.{each_both}
 use Rattle.vo_laws.proofs.StepLaws.{trees_follow}
 use Rattle.vo_laws.proofs.StoredFits.{record_fits}
+use Rattle.vo_store.specs.declared.kept_version.KeptVersion.{KeptVersion}
 use Rattle.vo_store.specs.declared.signed_record.SignedRecord.{SignedRecord}
-use Rattle.vo_store.specs.StoreState.{StoreState, new_store, with_installed, with_pending}
-use Rattle.vo_store.specs.HonestStores.{AreHonest, FollowBy, IsHonestAfter, IsHonestStore, IsInstalled, IsPending, IsRecordOf}
-use Rattle.vo_store.specs.Calls.{next_version}
+use Rattle.vo_store.specs.StoreState.{StoreState, earlier_behind, oldest_of, new_store, with_installed, with_pending}
+use Rattle.vo_store.specs.HonestStores.{AreHonest, AreKept, FollowBy, IsAnswering, IsHonestAfter, IsHonestStore, IsInstalled, IsKeptOf, IsPending, IsRecordOf}
+use Rattle.vo_store.specs.Calls.{kept_at, next_version}
+use Rattle.vo_store.proofs.KeptLaws.{first_batches_fit, kept_is, kept_more, none_kept}
 use Rattle.vo_store.proofs.SignatureLaws.{key_long, signed_short, version_below}
 
 -- Stores that have installed nothing.
 
 pub new_honest : (key : List ℕ) → IsHonestAfter [] (new_store key)
 unfolding honest_trees
-new_honest key = record { fit = tt; tables = refl; installed = refl; pending = refl }
+new_honest key = record { fit = tt; tables = refl; installed = refl; earlier = none_kept key; pending = refl }
 
 pub trees_honest : (s : StoreState) → IsHonestStore s → AreHonest s.tables
 trees_honest s h = (h.0, h.1.fit, h.1.tables)
@@ -38,6 +41,14 @@ record_fits_bytes key batches installed is =
     let long = key_long key installed.rec installed.signature is.signed in
     subst FitsRecord (sym is.record_is) (record_fits key (length batches) (honest_trees batches) (omega (arith, long)) (omega (arith, version, few)))
 
+-- by a version that is kept a query can be answered
+pub kept_answers : (key : List ℕ) (batches : List (List Command)) (kept : KeptVersion) → AllByRecursion FitsBatch batches → IsKeptOf key batches kept → IsAnswering kept
+kept_answers key batches kept fit is = record {
+  signed = record_fits_bytes key batches kept.signed is.signed;
+  short = signed_short key kept.signed.rec kept.signed.signature is.signed.signed;
+  honest = (batches, fit, is.tables);
+}
+
 module _ (s : StoreState) (honest : IsHonestStore s) where
   record_of : (o : Option SignedRecord) (installed : SignedRecord) → o ≡ Some installed → IsInstalled s.key honest.0 o → IsRecordOf s.key honest.0 installed
   record_of None installed e is = absurd (cc)
@@ -50,6 +61,13 @@ module _ (s : StoreState) (honest : IsHonestStore s) where
 
   pub installed_fits : (installed : SignedRecord) → s.installed ≡ Some installed → FitsRecord installed.rec
   installed_fits installed e = record_fits_bytes s.key honest.0 installed (record_of s.installed installed e honest.1.installed)
+
+  -- the version at a place, from the oldest to the newest
+  pub answers_at : (installed : SignedRecord) → s.installed ≡ Some installed → (version : ℕ) → oldest_of installed.rec.version ≤ version → version ≤ installed.rec.version
+      → IsAnswering (kept_at s.earlier installed s.tables (version - oldest_of installed.rec.version))
+  answers_at installed there version above below =
+      kept_answers s.key (take version honest.0) (kept_at s.earlier installed s.tables (version - oldest_of installed.rec.version)) (first_batches_fit version honest.0 honest.1.fit)
+      (kept_is honest.0 s honest.1 installed there version above below)
 
   pub next_below : next_version s.installed < 2 ^ 64
   next_below = step s.installed honest.1.installed
@@ -68,7 +86,7 @@ follow_batch batches batch tables after e w =
 
 module _ (s : StoreState) (batches : List (List Command)) (h : IsHonestAfter batches s) where
   pub proposed_honest : IsSome s.installed → (after : List Stored) → FollowBy s.tables after → IsHonestAfter batches (with_pending after s)
-  proposed_honest there after follow = record { fit = h.fit; tables = h.tables; installed = h.installed; pending = pending s.installed there }
+  proposed_honest there after follow = record { fit = h.fit; tables = h.tables; installed = h.installed; earlier = h.earlier; pending = pending s.installed there }
     where
       pending : (o : Option SignedRecord) → IsSome o → IsPending o s.tables (Some after)
       pending None t = absurd (cc)
@@ -89,6 +107,8 @@ module _ (s : StoreState) (batches : List (List Command)) (h : IsHonestAfter bat
           fit = tt;
           tables = nothing;
           installed = record { record_is = due ∙ ap (λ o. honest_record s.key (next_version o) after) none ∙ ap (honest_record s.key 0) nothing; signed = signed };
+          earlier = subst (λ o. AreKept s.key [] (earlier_behind o s.tables s.earlier)) (sym none)
+              (subst (λ (bs : List (List Command)). AreKept s.key bs s.earlier) (subst (IsInstalled s.key batches) none h.installed) h.earlier);
           pending = tt;
         }
 
@@ -107,6 +127,8 @@ module _ (s : StoreState) (batches : List (List Command)) (h : IsHonestAfter bat
             record_is = due ∙ ap (λ (n : ℕ). honest_record s.key n after) version ∙ ap (honest_record s.key (length (batches ++ batch ∷ []))) trees;
             signed = signed;
           };
+          earlier = subst (λ o. AreKept s.key (batches ++ batch ∷ []) (earlier_behind o s.tables s.earlier)) (sym is)
+              (kept_more s.key batches batch s.earlier (record { signed = before; tables = s.tables }) h.earlier (record { signed = here; tables = h.tables }));
           pending = tt;
         }
 

@@ -1,6 +1,7 @@
 mod ProofLaws
 mod SignatureLaws
 mod InstallLaws
+mod KeptLaws
 mod HonestLaws
 mod TableLaws
 mod LoadLaws

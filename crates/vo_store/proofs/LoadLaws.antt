@@ -1,10 +1,11 @@
 -- A store that takes entries by its calls stands behind those that a store takes, and refuses the
 -- first that isn't one.
 use Rattle.std.proofs.Common.{◌≡◌, ℕ, zero, suc, ◌+◌, ◌-◌, ◌<◌, ◌≤◌, Bool, false, cond, List, [], ◌∷◌, ◌++◌, Option, Some, None, Result, Ok, Err, length, take, drop, refl, sym, ap, subst, ◌∙◌, append_assoc, append-nil, arith}
-use Rattle.std.specs.Prelude.{◌==◌, is_none, option_map, slice_get}
+use Rattle.std.specs.Prelude.{◌==◌, is_none, option_map, slice_get, IsOk}
+use Rattle.std.specs.Result.{result_unwrap_or}
 use Rattle.std.specs.List.{AllByRecursion}
 use Rattle.std.proofs.lemmas.Bool.Decides.{nat_tests}
-use Rattle.std.proofs.lemmas.List.{length-append, length-map, take_all, take_at}
+use Rattle.std.proofs.lemmas.List.{length-append, take_at}
 use Rattle.vo_spec.specs.declared.tables.Command.{Command}
 use Rattle.vo_spec.specs.declared.tables.CommandFault.{CommandFault}
 use Rattle.vo_spec.specs.declared.records.Record.{Record}
@@ -15,7 +16,7 @@ use Rattle.vo_spec.specs.Owners.{AreLoadable}
 use Rattle.vo_spec.specs.Honest.{Stored, after_work, honest_proofs, honest_record, honest_trees, work_all}
 use Rattle.vo_spec.specs.Replies.{proofs_bytes}
 use Rattle.vo_laws.proofs.ListLaws.{each_both}
-use Rattle.vo_laws.proofs.EntryLaws.{all_fit, entry_held, taken_front}
+use Rattle.vo_laws.proofs.EntryLaws.{entry_held, taken_first, taken_front}
 use Rattle.stored_tables.specs.Working.{work_from}
 use Rattle.owner_state.specs.EntriesOnTrees.{IsLoadableOn, IsRecorded}
 use Rattle.owner_state.specs.Walking.{StopsAt}
@@ -23,15 +24,15 @@ use Rattle.owner_state.proofs.EntrySteps.{taken_at_first, taken_behind}
 use Rattle.owner_state.proofs.WorkTurns.{work_done, work_left, work_refused, work_accepted}
 use Rattle.vo_store.specs.declared.fault.StoreFault.{StoreFault}
 use Rattle.vo_store.specs.declared.fault.StoreFault.TheVariants as fault
+use Rattle.vo_store.specs.declared.kept_version.KeptVersion.{KeptVersion}
 use Rattle.vo_store.specs.declared.signed_record.SignedRecord.{SignedRecord}
-use Rattle.vo_store.specs.StoreState.{StoreState, new_store, with_installed, with_pending}
-use Rattle.vo_store.specs.HonestStores.{IsHonestStore, IsInstalled, IsPending}
+use Rattle.vo_store.specs.StoreState.{StoreState, earlier_behind, latest, new_store, with_installed, with_pending}
+use Rattle.vo_store.specs.HonestStores.{IsHonestStore}
 use Rattle.vo_store.specs.Calls.{install_of, next_version, proposal_of, with_proofs}
-use Rattle.vo_store.specs.Loading.{last_signed, load_entries, pending_behind, refused_at, store_behind, taken_as, taken_from, taken_later}
+use Rattle.vo_store.specs.Loading.{kept_behind, kept_each, last_signed, load_entries, pending_behind, refused_at, signed_of, store_behind, taken_as, taken_from, taken_later}
 use Rattle.vo_store.proofs.InstallLaws.{install_good, installs}
-
-abbrev pub signed_of : Entry → SignedRecord
-signed_of e = record { rec = e.rec; signature = e.signature }
+use Rattle.vo_store.proofs.KeptLaws.{latest_more}
+use Rattle.vo_store.proofs.HonestLaws.{installed_honest, new_honest, one_more}
 
 -- The last entry.
 
@@ -116,6 +117,57 @@ module _ (s : StoreState) (before : SignedRecord) (there : s.installed ≡ Some 
           let refused : taken_later s e ≡ Err (fault.Command why.0 why.1 proofs) = ap taken_by (proposal_is (Err why) w) in
           absurd (cc)
 
+-- What is kept once one entry more is taken.
+
+abbrev kept_of : List Entry → Entry → KeptVersion
+kept_of front e = record { signed = signed_of e; tables = honest_trees (batches_of (drop 1 (front ++ e ∷ []))) }
+
+each_more : (front es : List Entry) (e : Entry) → kept_each front (es ++ e ∷ []) ≡ kept_each front es ++ kept_of (front ++ es) e ∷ []
+each_more front [] e = ap (λ (fs : List Entry). kept_of fs e ∷ []) (sym (append-nil front))
+each_more front (f ∷ es) e =
+    ap (λ (ks : List KeptVersion). kept_of front f ∷ ks)
+    (each_more (front ++ f ∷ []) es e ∙ ap (λ (fs : List Entry). kept_each (front ++ f ∷ []) es ++ kept_of fs e ∷ []) (append_assoc front (f ∷ []) es))
+
+module _ (f : Entry) (front : List Entry) where
+  abbrev es_now : List Entry
+  es_now = f ∷ front
+
+  abbrev before_last : List Entry
+  before_last = take (length es_now - 1) es_now
+
+  last_now : Entry
+  last_now = (last_there f front).0
+
+  parted : es_now ≡ before_last ++ last_now ∷ []
+  parted = parts es_now (length es_now - 1) last_now (omega arith) (ap (slice_get es_now) (let n : length es_now - 1 ≡ length front = omega arith in n) ∙ (last_there f front).1)
+    where
+      parts : (xs : List Entry) (n : ℕ) (x : Entry) → n + 1 ≡ length xs → slice_get xs n ≡ Some x → xs ≡ take n xs ++ x ∷ []
+      parts [] n x all found = absurd (cc)
+      parts (y ∷ []) zero x all found = let same : y ≡ x = cc in ap (λ z. z ∷ []) same
+      parts (y ∷ z ∷ xs) zero x all found = absurd (omega (arith, all))
+      parts (y ∷ xs) (suc n) x all found = ap (λ zs. y ∷ zs) (parts xs n x (omega (arith, all)) found)
+
+  earlier_more : (e : Entry) → earlier_behind (last_signed es_now) (honest_trees (batches_of front)) (kept_behind es_now) ≡ kept_behind (es_now ++ e ∷ [])
+  earlier_more e =
+      let trees : honest_trees (batches_of front) ≡ honest_trees (batches_of (drop 1 (before_last ++ last_now ∷ []))) = ap (λ (fs : List Entry). honest_trees (batches_of (drop 1 fs))) parted in
+      let all : kept_each [] before_last ++ kept_of before_last last_now ∷ [] ≡ kept_each [] es_now = sym (each_more [] before_last last_now) ∙ ap (kept_each []) (sym parted) in
+      let front_is : take (length (es_now ++ e ∷ []) - 1) (es_now ++ e ∷ []) ≡ es_now =
+      take_at es_now (e ∷ []) (length (es_now ++ e ∷ []) - 1) (omega (arith, length-append es_now (e ∷ []))) in
+      ap (λ o. earlier_behind o (honest_trees (batches_of front)) (kept_behind es_now)) (last_signed_is f front)
+      ∙ ap (λ ss. latest (kept_behind es_now ++ record { signed = signed_of last_now; tables = ss } ∷ [])) trees
+      ∙ latest_more (kept_each [] before_last) (kept_of before_last last_now)
+      ∙ ap latest (all ∙ ap (kept_each []) (sym front_is))
+
+  -- the store goes on as with an entry more
+  pub behind_more : (key : List ℕ) (e : Entry) (after : List Stored) → after ≡ honest_trees (batches_of (drop 1 (es_now ++ e ∷ [])))
+      → with_installed (signed_of e) after (store_behind key es_now) ≡ store_behind key (es_now ++ e ∷ [])
+  unfolding store_behind
+  behind_more key e after trees =
+      let abbrev_state : List KeptVersion → Option SignedRecord → List Stored → StoreState = λ ks o ss. record { key = key; earlier = ks; installed = o; tables = ss; pending = None } in
+      ap (λ (ks : List KeptVersion). abbrev_state ks (Some (signed_of e)) after) (earlier_more e)
+      ∙ ap (λ (o : Option SignedRecord). abbrev_state (kept_behind (es_now ++ e ∷ [])) o after) (sym (last_one es_now e))
+      ∙ ap (abbrev_state (kept_behind (es_now ++ e ∷ [])) (last_signed (es_now ++ e ∷ []))) trees
+
 module _ (key : List ℕ) where
   -- what taking one entry more behind these tells
   abbrev TakesNext : List Entry → Entry → Result StoreState StoreFault → Type 0
@@ -144,8 +196,8 @@ module _ (key : List ℕ) where
           let taken = install_good (new_store key) e.rec e.signature [] refl r.record_is r.signed in
           absurd (cc))
 
-  abbrev state : List Entry → Option SignedRecord → List Stored → StoreState
-  state es installed tables = record { key = key; installed = installed; tables = tables; pending = pending_behind es }
+  abbrev state : List Entry → List KeptVersion → Option SignedRecord → List Stored → StoreState
+  state es earlier installed tables = record { key = key; earlier = earlier; installed = installed; tables = tables; pending = pending_behind es }
 
   takes_later : (f : Entry) (front : List Entry) (e : Entry) → AllByRecursion FitsEntry (f ∷ front) → FitsEntry e → AreLoadable key (f ∷ front)
       → TakesNext (f ∷ front) e (taken_later (store_behind key (f ∷ front)) e)
@@ -156,7 +208,7 @@ module _ (key : List ℕ) where
       es = f ∷ front
 
       s : StoreState
-      s = state es (last_signed es) (honest_trees (batches_of front))
+      s = state es (kept_behind es) (last_signed es) (honest_trees (batches_of front))
 
       last : (x : Entry) × (slice_get es (length front) ≡ Some x)
       last = last_there f front
@@ -173,8 +225,7 @@ module _ (key : List ℕ) where
           let g = taken_behind key es s.tables e (Some (after_work s.tables e.batch.commands)) (omega arith) fit fits loadable refl
           (subst (λ (n : ℕ). IsLoadableOn key n s.tables e) version only.0, refl) in (
             g.0,
-            only.1 ∙ ap (state (es ++ e ∷ []) (Some (signed_of e))) g.1
-                ∙ ap (λ o. state (es ++ e ∷ []) o (honest_trees (batches_of (front ++ e ∷ [])))) (sym (last_one es e)),
+            only.1 ∙ behind_more f front key e (after_work s.tables e.batch.commands) g.1,
           )
       step (Err why) is =
           taken_behind key es s.tables e None (omega arith) fit fits loadable refl (λ on.
@@ -260,38 +311,63 @@ module _ (key : List ℕ) where
 
   -- A store behind entries keeps what every store does.
 
-  pub behind_honest : (es : List Entry) → AllByRecursion FitsEntry es → AreLoadable key es → IsHonestStore (store_behind key es)
+  honest_next : (front : List Entry) (e : Entry) → AllByRecursion FitsEntry front → FitsEntry e → AreLoadable key front → AreLoadable key (front ++ e ∷ [])
+      → IsHonestStore (store_behind key front) → IsHonestStore (store_behind key (front ++ e ∷ []))
   unfolding store_behind honest_trees
-  behind_honest [] fit loadable = ([], record { fit = tt; tables = refl; installed = refl; pending = refl })
-  behind_honest (f ∷ front) fit loadable =
-      let es : List Entry = f ∷ front in
-      let last = last_there f front in
-      let held = entry_held key es (length front) last.0 loadable last.1 in
-      let batches : List (List Command) = batches_of front in
-      let long : length front ≡ length batches = sym (length-map front (λ (x : Entry). x.batch.commands)) in
-      let installed : IsInstalled key batches (Some (signed_of last.0)) = record {
-        record_is = held.record_is ∙ ap (λ (xs : List Entry). honest_record key (length front) (honest_trees (batches_of xs))) (take_all (length front) front (omega arith))
-            ∙ ap (λ (n : ℕ). honest_record key n (honest_trees batches)) long;
-        signed = held.signed;
-      } in (
-        batches,
-        record {
-          fit = all_fit es fit;
-          tables = refl;
-          installed = subst (IsInstalled key batches) (sym (last_signed_is f front)) installed;
-          pending = subst (λ o. IsPending o (honest_trees batches) None) (sym (last_signed_is f front)) tt;
-        },
-      )
+  honest_next [] e fit fits loadable more h =
+      let t = (taken_first key e).0 more in
+      installed_honest (new_store key) ([], new_honest key) (signed_of e) [] t.1 refl t.0
+  honest_next (f ∷ front) e fit fits loadable more h = step (taken_later s e) refl (takes_later f front e fit fits loadable)
+    where
+      es : List Entry
+      es = f ∷ front
 
--- What loading gives, as its fields are.
+      s : StoreState
+      s = state es (kept_behind es) (last_signed es) (honest_trees (batches_of front))
 
-pub none_behind : (key : List ℕ) (es : List Entry) → length es ≡ 0 → store_behind key es ≡ new_store key
-none_behind key [] e = behind_none key
-none_behind key (f ∷ front) e = absurd (omega (arith, e))
+      last : (x : Entry) × (slice_get es (length front) ≡ Some x)
+      last = last_there f front
 
-pub made_behind : (key : List ℕ) (es : List Entry) (installed : SignedRecord) (tables : List Stored) → 0 < length es → last_signed es ≡ Some installed → tables ≡ honest_trees (batches_of (drop 1 es))
-    → record { key = key; installed = Some installed; tables = tables; pending = None } ≡ store_behind key es
-unfolding store_behind
-made_behind key [] installed tables some last trees = absurd (omega (arith, some))
-made_behind key (f ∷ front) installed tables some last trees =
-    ap (λ o. state key (f ∷ front) o tables) (sym last) ∙ ap (state key (f ∷ front) (last_signed (f ∷ front))) trees
+      ok_left : (r : Result (List Stored) (ℕ × CommandFault)) (d : List Stored) → IsOk r → r ≡ Ok (result_unwrap_or r d)
+      ok_left (Ok after) d is = refl
+      ok_left (Err why) d is = absurd (cc)
+
+      step : (r : Result StoreState StoreFault) → taken_later s e ≡ r → TakesNext es e r → IsHonestStore (store_behind key (es ++ e ∷ []))
+      step (Err why) is t = absurd (t more)
+      step (Ok next) is t =
+          let only = later_only s (signed_of last.0) (last_signed_is f front) e next is in
+          let after : List Stored = after_work s.tables e.batch.commands in
+          let honest : IsHonestStore (with_installed (signed_of e) after s) = (
+            h.0 ++ e.batch.commands ∷ [],
+            one_more s h.0 h.1 (signed_of e) after only.0.recorded.signed (signed_of last.0) e.batch.commands (last_signed_is f front) fits.batch
+                (ok_left (work_all e.batch.commands s.tables) s.tables only.0.accepted) only.0.recorded.record_is,
+          ) in
+          subst IsHonestStore (sym only.1 ∙ t.1) honest
+
+  front_taken : (front rest : List Entry) → AreLoadable key (front ++ rest) → AreLoadable key front
+  front_taken front rest all = subst (AreLoadable key) (take_at front rest (length front) refl) (taken_front key (length front) (front ++ rest) all)
+
+  honest_on : (front rest : List Entry) → AllByRecursion FitsEntry front → AllByRecursion FitsEntry rest → AreLoadable key (front ++ rest)
+      → IsHonestStore (store_behind key front) → IsHonestStore (store_behind key (front ++ rest))
+  honest_on front [] fit fits loadable h = subst (λ es. IsHonestStore (store_behind key es)) (sym (append-nil front)) h
+  honest_on front (e ∷ rest) fit fits loadable h =
+      let on : AreLoadable key ((front ++ e ∷ []) ++ rest) = subst (AreLoadable key) (sym (append_assoc front (e ∷ []) rest)) loadable in
+      subst (λ es. IsHonestStore (store_behind key es)) (append_assoc front (e ∷ []) rest)
+      (honest_on (front ++ e ∷ []) rest (each_both FitsEntry front (e ∷ []) fit (fits.0, tt)) fits.1 on
+      (honest_next front e fit fits.0 (front_taken front (e ∷ rest) loadable) (front_taken (front ++ e ∷ []) rest on) h))
+
+  pub behind_honest : (es : List Entry) → AllByRecursion FitsEntry es → AreLoadable key es → IsHonestStore (store_behind key es)
+  behind_honest es fit loadable = honest_on [] es tt fit loadable (subst IsHonestStore (sym behind_none) ([], new_honest key))
+
+  -- One entry more.
+
+  pub entry_behind : (front : List Entry) (e : Entry) (after : List Stored) → after ≡ honest_trees (batches_of (drop 1 (front ++ e ∷ [])))
+      → with_installed (signed_of e) after (store_behind key front) ≡ store_behind key (front ++ e ∷ [])
+  unfolding store_behind
+  entry_behind [] e after trees = ap (state (e ∷ []) [] (Some (signed_of e))) trees
+  entry_behind (f ∷ front) e after trees = behind_more f front key e after trees
+
+  pub entry_honest : (front : List Entry) (e : Entry) (after : List Stored) → AllByRecursion FitsEntry front → FitsEntry e → AreLoadable key (front ++ e ∷ [])
+      → after ≡ honest_trees (batches_of (drop 1 (front ++ e ∷ []))) → IsHonestStore (with_installed (signed_of e) after (store_behind key front))
+  entry_honest front e after fit fits loadable trees =
+      subst IsHonestStore (sym (entry_behind front e after trees)) (behind_honest (front ++ e ∷ []) (each_both FitsEntry front (e ∷ []) fit (fits, tt)) loadable)

@@ -1,10 +1,11 @@
 -- A store's proposals and installs beside the plain tables, its clients and its owner.
-use Rattle.std.proofs.Common.{◌≡◌, ℕ, ◌+◌, ◌≤◌, Bool, true, false, cond, List, [], ◌∷◌, ◌++◌, Option, Some, None, Result, Ok, Err, length, refl, sym, ap, subst, ◌∙◌, inr}
+use Rattle.std.proofs.Common.{◌≡◌, ℕ, ◌+◌, ◌-◌, ◌≤◌, Bool, true, false, cond, List, [], ◌∷◌, ◌++◌, Option, Some, None, Result, Ok, Err, length, take, refl, sym, ap, subst, ◌∙◌, inr, arith}
 use Rattle.std.specs.Prelude.{is_none, is_some, nat_le, IsOk, IsSome}
 use Rattle.std.specs.Global.{Vec}
-use Rattle.std.specs.Option.{option_map_or}
+use Rattle.std.specs.List.{AllByRecursion}
 use Rattle.std.specs.Result.{is_ok, result_map_both}
 use Rattle.std.proofs.lemmas.Bool.{leb-true}
+use Rattle.std.proofs.lemmas.List.{length-take-le}
 use Rattle.vo_spec.specs.declared.tables.Command.{Command}
 use Rattle.vo_spec.specs.declared.tables.CommandFault.{CommandFault}
 use Rattle.vo_spec.specs.declared.tables.Table.{Table}
@@ -40,13 +41,16 @@ use Rattle.root_laws.proofs.Representation.{read_honestly}
 use Rattle.owner_state.proofs.WorkTurns.{work_done, work_left}
 use Rattle.vo_store.specs.declared.fault.StoreFault.{StoreFault}
 use Rattle.vo_store.specs.declared.fault.StoreFault.TheVariants as fault
+use Rattle.vo_store.specs.declared.kept_version.KeptVersion.{KeptVersion}
 use Rattle.vo_store.specs.declared.signed_record.SignedRecord.{SignedRecord}
-use Rattle.vo_store.specs.StoreState.{StoreState, with_installed, with_pending}
-use Rattle.vo_store.specs.HonestStores.{IsHonestAfter, IsInstalled, IsRecordOf}
-use Rattle.vo_store.specs.Calls.{FitProofs, Gives, answer_of, install_of, next_version, proposal_of, with_proofs, within_limit}
+use Rattle.vo_store.specs.StoreState.{StoreState, oldest_of, with_installed, with_pending}
+use Rattle.vo_store.specs.HonestStores.{IsAnswerBy, IsHonestAfter, IsKeptOf}
+use Rattle.vo_store.specs.Calls.{FitProofs, Gives, answer_at_of, answer_of, install_of, kept_at, next_version, proposal_of, reply_by_kept, signed_reply, with_proofs}
 use Rattle.vo_store.proofs.SignatureLaws.{signed_short}
 use Rattle.vo_store.proofs.InstallLaws.{install_good, installs}
+use Rattle.vo_store.proofs.KeptLaws.{first_batches_fit, is_installed, kept_is, newest_at, version_is}
 use Rattle.vo_store.proofs.HonestLaws.{record_fits_bytes, at_first, one_more, proposed_honest}
+use Rattle.vo_store.proofs.CallLaws.{answer_some, answers_at, version_kept}
 
 pub stand : (batches : List (List Command)) (s : StoreState) → IsHonestAfter batches s → RepresentTables s.tables (tables_after batches)
 stand batches s h = subst (λ ss. RepresentTables ss (tables_after batches)) (sym h.tables) (stands batches h.fit).0
@@ -198,6 +202,7 @@ module _ (batches : List (List Command)) (cs : List Command) (s : StoreState) (h
   proofs_fit next (Err fault.BadSignature) e = tt
   proofs_fit next (Err (fault.TooLarge size)) e = tt
   proofs_fit next (Err fault.Empty) e = tt
+  proofs_fit next (Err (fault.NoVersion version oldest newest)) e = tt
   proofs_fit next (Err fault.Memory) e = tt
 
 pub first_installed : (s next : StoreState) (rec : Record) (signature : List ℕ) → IsHonestAfter [] s → s.installed ≡ None → install_of s rec signature ≡ Ok next → IsHonestAfter [] next
@@ -219,44 +224,69 @@ entry_taken cs s pending installed proofs e there p signed =
 
 -- What a client says of an answer.
 
-module _ (batches : List (List Command)) (s : StoreState) (installed : SignedRecord) (least : ℕ) (q : Query) (bytes : List ℕ) (h : IsHonestAfter batches s)
-    (there : s.installed ≡ Some installed) (numbers : FitsQuery q) (recent : least ≤ installed.rec.version) where
-  of_batches : IsRecordOf s.key batches installed
-  of_batches = subst (IsInstalled s.key batches) there h.installed
-
+module _ (key : List ℕ) (batches : List (List Command)) (kept : KeptVersion) (least : ℕ) (q : Query) (bytes : List ℕ) (fit : AllByRecursion FitsBatch batches)
+    (is : IsKeptOf key batches kept) (numbers : FitsQuery q) (recent : least ≤ kept.signed.rec.version) where
   abbrev r : Reply
-  r = honest_reply q installed.rec installed.signature s.tables
+  r = honest_reply q kept.signed.rec kept.signed.signature kept.tables
 
   abbrev plain_answer : Answer
-  plain_answer = record { version = installed.rec.version; outcome = result q (tables_after batches) }
+  plain_answer = record { version = kept.signed.rec.version; outcome = result q (tables_after batches) }
 
-  rec_fits : FitsRecord installed.rec
-  rec_fits = record_fits_bytes s.key batches installed of_batches
+  rec_fits : FitsRecord kept.signed.rec
+  rec_fits = record_fits_bytes key batches kept.signed is.signed
 
   reply_read : IsReply (reply_bytes r) r
   reply_read = record {
-    fits = subst (λ ss. FitsReply (honest_reply q installed.rec installed.signature ss)) (sym h.tables)
-        (reply_fits batches q installed.rec installed.signature h.fit rec_fits (signed_short s.key installed.rec installed.signature of_batches.signed));
+    fits = subst (λ ss. FitsReply (honest_reply q kept.signed.rec kept.signed.signature ss)) (sym is.tables)
+        (reply_fits batches q kept.signed.rec kept.signed.signature fit rec_fits (signed_short key kept.signed.rec kept.signed.signature is.signed.signed));
     encoded = refl;
   }
 
-  told : answer_to s.key least q r ≡ Ok plain_answer
+  told : answer_to key least q r ≡ Ok plain_answer
   told =
-      ap (λ ss. answer_to s.key least q (honest_reply q installed.rec installed.signature ss)) h.tables
-      ∙ honest_answer batches s.key (length batches) least q installed.rec installed.signature h.fit of_batches.record_is of_batches.signed recent numbers
+      ap (λ ss. answer_to key least q (honest_reply q kept.signed.rec kept.signed.signature ss)) is.tables
+      ∙ honest_answer batches key (length batches) least q kept.signed.rec kept.signed.signature fit is.signed.record_is is.signed.signed recent numbers
 
   -- the reply's bytes, and that they are not over the limit
-  within : answer_of s q ≡ Ok bytes → (bytes ≡ reply_bytes r) × (length bytes ≤ max_reply)
-  unfolding answer_of
-  within e =
-      step (nat_le (length (reply_bytes r)) max_reply) refl
-      (sym (ap (λ (o : Option SignedRecord). option_map_or (λ (x : SignedRecord). within_limit (reply_bytes (honest_reply q x.rec x.signature s.tables))) o (Err fault.Empty)) there) ∙ e)
+  within : reply_by_kept q kept ≡ Ok bytes → (bytes ≡ reply_bytes r) × (length bytes ≤ max_reply)
+  within e = step (nat_le (length (reply_bytes r)) max_reply) refl e
     where
       step : (b : Bool) → nat_le (length (reply_bytes r)) max_reply ≡ b → cond b (Ok (reply_bytes r)) (Err (fault.TooLarge (length (reply_bytes r)))) ≡ Ok bytes
           → (bytes ≡ reply_bytes r) × (length bytes ≤ max_reply)
       step true f g = let same : reply_bytes r ≡ bytes = cc in (sym same, subst (λ (t : List ℕ). length t ≤ max_reply) same (leb-true (length (reply_bytes r)) max_reply f))
       step false f g = absurd (cc)
 
-  pub checked : answer_of s q ≡ Ok bytes → CheckOf s.key least q bytes (Ok plain_answer)
+  kept_checked : reply_by_kept q kept ≡ Ok bytes → CheckOf key least q bytes (Ok plain_answer)
   unfolding CheckOf
-  checked e = let w = within e in inr (inr (w.1, r, subst (λ t. IsReply t r) (sym w.0) reply_read, sym told))
+  kept_checked e = let w = within e in inr (inr (w.1, r, subst (λ t. IsReply t r) (sym w.0) reply_read, sym told))
+
+module _ (batches : List (List Command)) (s : StoreState) (h : IsHonestAfter batches s) where
+  pub checked : (installed : SignedRecord) (least : ℕ) (q : Query) (bytes : List ℕ) → s.installed ≡ Some installed → FitsQuery q → least ≤ installed.rec.version → answer_of s q ≡ Ok bytes
+      → CheckOf s.key least q bytes (Ok (record { version = installed.rec.version; outcome = result q (tables_after batches) }))
+  checked installed least q bytes there numbers recent e =
+      let newest : KeptVersion = record { signed = installed; tables = s.tables } in
+      kept_checked s.key batches newest least q bytes h.fit (record { signed = is_installed batches s h installed there; tables = h.tables }) numbers recent (answer_some s q installed there ∙ e)
+
+  -- a version that is kept
+  pub checked_at : (version least : ℕ) (q : Query) (bytes : List ℕ) → FitsQuery q → least ≤ version → answer_at_of s version q ≡ Ok bytes
+      → CheckOf s.key least q bytes (Ok (record { version = version; outcome = result q (tables_after (take version batches)) }))
+  unfolding honest_record
+  checked_at version least q bytes numbers recent e =
+      let a = answers_at s q version bytes e in
+      let kept : KeptVersion = kept_at s.earlier a.installed s.tables (version - oldest_of a.installed.rec.version) in
+      let is : IsKeptOf s.key (take version batches) kept = kept_is batches s h a.installed a.there version a.above a.below in
+      let few : version ≤ length batches = omega (arith, version_is batches s h a.installed a.there, a.below) in
+      let number : kept.signed.rec.version ≡ version = ap (λ (x : Record). x.version) is.signed.record_is ∙ length-take-le version batches few in
+      subst (λ (n : ℕ). CheckOf s.key least q bytes (Ok (record { version = n; outcome = result q (tables_after (take version batches)) }))) number
+      (kept_checked s.key (take version batches) kept least q bytes (first_batches_fit version batches h.fit) is numbers (omega (arith, number, recent)) a.reply)
+
+  pub there_at : (installed : SignedRecord) (version : ℕ) (q : Query) → s.installed ≡ Some installed → oldest_of installed.rec.version ≤ version → version ≤ installed.rec.version
+      → IsAnswerBy s.key (take version batches) q (answer_at_of s version q)
+  there_at installed version q there above below =
+      let kept : KeptVersion = kept_at s.earlier installed s.tables (version - oldest_of installed.rec.version) in
+      let is : IsKeptOf s.key (take version batches) kept = kept_is batches s h installed there version above below in
+      (kept.signed, is.signed, sym (version_kept s q version installed there above below) ∙ ap (signed_reply q kept.signed) is.tables)
+
+  pub newest_same : (installed : SignedRecord) (q : Query) → s.installed ≡ Some installed → answer_at_of s installed.rec.version q ≡ answer_of s q
+  newest_same installed q there =
+      sym (version_kept s q installed.rec.version installed there (omega arith) (omega arith)) ∙ ap (reply_by_kept q) (newest_at batches s h installed there) ∙ answer_some s q installed there

@@ -1,5 +1,5 @@
 -- What a store says, and how it goes on.
-use Rattle.std.specs.Prelude.{◌≡◌, ℕ, ◌+◌, ◌≤◌, ◌==◌, Bool, false, not, ◌&&◌, nat_le, if◌then◌else◌, List, [], ◌∷◌, length, Option, is_none, Result, Ok, Err, bytes_eq}
+use Rattle.std.specs.Prelude.{◌≡◌, ℕ, ◌+◌, ◌-◌, ◌≤◌, ◌==◌, Bool, false, not, ◌&&◌, nat_le, if◌then◌else◌, List, [], ◌∷◌, length, get_or, Option, is_none, Result, Ok, Err, bytes_eq}
 use Rattle.std.specs.Global.{Vec}
 use Rattle.std.specs.Option.{option_map_or}
 use Rattle.vo_spec.specs.declared.tables.Command.{Command}
@@ -16,7 +16,8 @@ use Rattle.stored_tables.specs.Working.{work_from}
 use Rattle.vo_store.specs.declared.fault.StoreFault.{StoreFault}
 use Rattle.vo_store.specs.declared.fault.StoreFault.TheVariants as fault
 use Rattle.vo_store.specs.declared.signed_record.SignedRecord.{SignedRecord}
-use Rattle.vo_store.specs.StoreState.{StoreState, with_installed, with_pending}
+use Rattle.vo_store.specs.declared.kept_version.KeptVersion.{KeptVersion}
+use Rattle.vo_store.specs.StoreState.{StoreState, oldest_of, with_installed, with_pending}
 
 -- what a call gave, seen so, is the answer, unless memory ran out
 abbrev pub Gives : {X Y : Type 0} → (X → Y) → Result X StoreFault → Result Y StoreFault → Type 0
@@ -31,10 +32,35 @@ abbrev pub within_limit : List ℕ → Result (List ℕ) StoreFault
 within_limit bytes = if nat_le (length bytes) max_reply then Ok bytes
     else Err (fault.TooLarge (length bytes))
 
+-- the one reply to a query by a version
+abbrev pub signed_reply : Query → SignedRecord → List Stored → Result (List ℕ) StoreFault
+signed_reply q e tables = within_limit (reply_bytes (honest_reply q e.rec e.signature tables))
+
 -- the one reply to a query by what is installed
 unfoldable pub answer_of : StoreState → Query → Result (List ℕ) StoreFault
-answer_of s q = option_map_or (λ (e : SignedRecord). within_limit
-    (reply_bytes (honest_reply q e.rec e.signature s.tables))) s.installed (Err fault.Empty)
+answer_of s q =
+    option_map_or (λ (e : SignedRecord). signed_reply q e s.tables) s.installed (Err fault.Empty)
+
+-- The version at this place among those that are kept: behind the earlier ones comes the installed
+-- one.
+abbrev pub kept_at : List KeptVersion → SignedRecord → List Stored → ℕ → KeptVersion
+kept_at earlier installed tables place =
+    get_or earlier place (record { signed = installed; tables = tables })
+
+abbrev pub reply_by_kept : Query → KeptVersion → Result (List ℕ) StoreFault
+reply_by_kept q kept = signed_reply q kept.signed kept.tables
+
+-- the one reply by this version, where it is neither too old nor too new
+abbrev pub reply_of_version : Query → ℕ → StoreState → SignedRecord → Result (List ℕ) StoreFault
+reply_of_version q version s e = let oldest = oldest_of e.rec.version in
+    if nat_le oldest version && nat_le version e.rec.version
+    then reply_by_kept q (kept_at s.earlier e s.tables (version - oldest))
+    else Err (fault.NoVersion version oldest e.rec.version)
+
+-- the one reply to a query by a version that is kept
+unfoldable pub answer_at_of : StoreState → ℕ → Query → Result (List ℕ) StoreFault
+answer_at_of s version q =
+    option_map_or (reply_of_version q version s) s.installed (Err fault.Empty)
 
 -- Proposals.
 

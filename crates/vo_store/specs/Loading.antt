@@ -1,12 +1,14 @@
 -- A store that takes entries by its own calls, and what it stands at then.
-use Rattle.std.specs.Prelude.{ℕ, ◌+◌, ◌-◌, ◌==◌, if◌then◌else◌, List, [], ◌∷◌, length, drop, Option, Some, None, option_map, slice_get, Result, Ok, Err}
+use Rattle.std.specs.Prelude.{◌≡◌, ℕ, Bool, true, false, ◌+◌, ◌-◌, ◌==◌, if◌then◌else◌, List, [], ◌∷◌, ◌++◌, length, take, drop, Option, Some, None, option_map, slice_get, Result, Ok, Err}
 use Rattle.vo_spec.specs.declared.records.Entry.{Entry}
 use Rattle.vo_spec.specs.Firsts.{and_then}
 use Rattle.vo_spec.specs.Journals.{batches_of}
+use Rattle.vo_spec.specs.Owners.{AreLoadable}
 use Rattle.vo_spec.specs.Honest.{Stored, honest_trees}
 use Rattle.vo_store.specs.declared.fault.StoreFault.{StoreFault}
 use Rattle.vo_store.specs.declared.signed_record.SignedRecord.{SignedRecord}
-use Rattle.vo_store.specs.StoreState.{StoreState, new_store}
+use Rattle.vo_store.specs.declared.kept_version.KeptVersion.{KeptVersion}
+use Rattle.vo_store.specs.StoreState.{StoreState, latest, new_store}
 use Rattle.vo_store.specs.Calls.{proposal_of, install_of}
 
 -- the store behind an entry of a version after 0: its batch is proposed, and then its record
@@ -37,9 +39,22 @@ load_entries key es = taken_from 0 es (new_store key)
 
 -- Where a store of the key stands once it has loaded these entries.
 
+abbrev pub signed_of : Entry → SignedRecord
+signed_of e = record { rec = e.rec; signature = e.signature }
+
 abbrev pub last_signed : List Entry → Option SignedRecord
-last_signed es = option_map
-    (λ (e : Entry). record { rec = e.rec; signature = e.signature }) (slice_get es (length es - 1))
+last_signed es = option_map signed_of (slice_get es (length es - 1))
+
+-- what is kept of the versions of entries, these being those before the first of them
+abbrev pub kept_each : List Entry → List Entry → List KeptVersion
+kept_each front [] = []
+kept_each front (e ∷ es) =
+    record { signed = signed_of e; tables = honest_trees (batches_of (drop 1 (front ++ e ∷ []))) }
+    ∷ kept_each (front ++ e ∷ []) es
+
+-- and of those before the last entry
+abbrev pub kept_behind : List Entry → List KeptVersion
+kept_behind es = latest (kept_each [] (take (length es - 1) es))
 
 abbrev pub pending_behind : List Entry → Option (List Stored)
 pending_behind [] = Some []
@@ -48,7 +63,15 @@ pending_behind (e ∷ es) = None
 unfoldable pub store_behind : List ℕ → List Entry → StoreState
 store_behind key es = record {
   key = key;
+  earlier = kept_behind es;
   installed = last_signed es;
   tables = honest_trees (batches_of (drop 1 es));
   pending = pending_behind es;
 }
+
+-- One entry more behind those that a store of the key has loaded: it stands behind that too, or the
+-- entry isn't one that a store takes there.
+abbrev pub TakesEntry : List ℕ → List Entry → Entry → StoreState → Bool → Type 0
+TakesEntry key front e after true =
+    AreLoadable key (front ++ e ∷ []) × (after ≡ store_behind key (front ++ e ∷ []))
+TakesEntry key front e after false = AreLoadable key (front ++ e ∷ []) → ⊥

@@ -6,10 +6,12 @@ ghost use Rattle.vo_spec.specs.Records.{FitsRecord};
 ghost use Rattle.vo_spec.specs.Replies.{FitsReply, reply_bytes};
 ghost use Rattle.vo_spec.specs.Honest.{honest_reply};
 ghost use Rattle.vo_format.specs.View.{reply_of};
-ghost use Rattle.vo_store.specs.Calls.{Gives, within_limit};
-ghost use Rattle.vo_store.specs.HonestStores.{AreHonest};
+ghost use Rattle.vo_store.specs.StoreState.{oldest_of};
+ghost use Rattle.vo_store.specs.Calls.{Gives, kept_at, reply_by_kept, signed_reply, within_limit};
+ghost use Rattle.vo_store.specs.HonestStores.{AreHonest, IsAnswering};
 
 use crate::fault::StoreFault;
+use crate::kept_version::{KEPT_VERSIONS, KeptVersion};
 use crate::proving::proofs_for;
 use crate::signed_record::SignedRecord;
 use std::alloc::{AllocError, Global};
@@ -67,11 +69,38 @@ pub(crate) fn answer_by_tables(
     requires signed { FitsRecord installed.now.rec }
     requires short { length installed.now.signature ≤ max_signature }
     requires honest { AreHonest tables.now }
-    ensures { Gives (λ bytes. bytes.items) result (within_limit (reply_bytes
-        (honest_reply (query_of query.now) installed.now.rec installed.now.signature tables.now))) }
+    ensures { Gives (λ bytes. bytes.items) result
+        (signed_reply (query_of query.now) installed.now tables.now) }
 {
     match reply_by_tables(alloc, installed, tables, query) {
         Ok(reply) => bytes_of(alloc, &reply),
         Err(_) => Err(StoreFault::Memory),
+    }
+}
+
+/// The first version that a store keeps where this one is installed.
+pub(crate) fn oldest_version(newest: u64) -> u64
+    ensures { result ≡ oldest_of newest }
+{
+    newest.saturating_sub(KEPT_VERSIONS as u64 - 1)
+}
+
+/// The bytes of the reply by the version at a place of those that are kept, the installed one
+/// behind the earlier ones.
+pub(crate) fn answer_by_kept(
+    alloc: Global,
+    earlier: &[KeptVersion],
+    installed: &SignedRecord,
+    tables: &StoredTables,
+    place: usize,
+    query: &QueryText,
+) -> Result<Vec<u8>, StoreFault>
+    requires { IsAnswering (kept_at earlier.now installed.now tables.now place) }
+    ensures { Gives (λ bytes. bytes.items) result (reply_by_kept (query_of query.now)
+        (kept_at earlier.now installed.now tables.now place)) }
+{
+    match earlier.get(place) {
+        Some(kept) => answer_by_tables(alloc, &kept.signed, &kept.tables, query),
+        None => answer_by_tables(alloc, installed, tables, query),
     }
 }

@@ -40,6 +40,13 @@ pub enum StoreFault {
     /// No version is installed.
     #[error("an empty store")]
     Empty,
+    /// The version isn't kept: it is before the oldest that is, or behind the newest.
+    #[error("no such version")]
+    NoVersion {
+        version: u64,
+        oldest: u64,
+        newest: u64,
+    },
     #[error("out of memory")]
     Memory,
 }
@@ -75,10 +82,21 @@ impl From<AllocError> for LoadFault {
 pub enum ReplyFault {
     /// The store doesn't take the journal's entry of this number, or it can't be read.
     #[error("a bad journal")]
-    BadJournal { index: u64 },
+    BadJournal {
+        index: u64,
+    },
     /// The reply has so many bytes, and that is over the limit.
     #[error("a reply over the limit")]
-    TooLarge { length: u64 },
+    TooLarge {
+        length: u64,
+    },
+    /// The store keeps no such version: it is before the oldest that is kept, or behind the newest.
+    #[error("no such version")]
+    NoVersion {
+        version: u64,
+        oldest: u64,
+        newest: u64,
+    },
     #[error("out of memory")]
     Memory,
 }

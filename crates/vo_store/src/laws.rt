@@ -1,7 +1,7 @@
 //! Laws of stores, each the contract of a function that does nothing: what they keep call by call,
 //! and that clients and owners take what they say.
 
-ghost use Rattle.std.specs.Prelude.{◌≡◌, ℕ, ◌+◌, ◌≤◌, List, [], ◌∷◌, ◌++◌, Some, None, Ok, Err, IsOk};
+ghost use Rattle.std.specs.Prelude.{◌≡◌, ℕ, ◌+◌, ◌≤◌, List, [], ◌∷◌, ◌++◌, Some, None, Ok, Err, IsOk, take};
 ghost use Rattle.vo_spec.specs.declared.records.Record.{Record};
 ghost use Rattle.vo_spec.specs.declared.records.Entry.{Entry};
 ghost use Rattle.vo_spec.specs.declared.tables.Command.{Command};
@@ -17,9 +17,9 @@ ghost use Rattle.owner_roots.specs.Next.{NextOf};
 ghost use Rattle.owner_roots.specs.Owners.{IsSignedFor, honest_roots};
 ghost use Rattle.vo_store.specs.declared.fault.StoreFault.TheVariants.{Command as Refused};
 ghost use Rattle.vo_store.specs.declared.signed_record.SignedRecord.{SignedRecord};
-ghost use Rattle.vo_store.specs.StoreState.{StoreState, new_store};
-ghost use Rattle.vo_store.specs.HonestStores.{IsHonestAfter};
-ghost use Rattle.vo_store.specs.Calls.{answer_of, install_of, proposal_of};
+ghost use Rattle.vo_store.specs.StoreState.{StoreState, new_store, oldest_of};
+ghost use Rattle.vo_store.specs.HonestStores.{IsAnswerBy, IsHonestAfter};
+ghost use Rattle.vo_store.specs.Calls.{answer_at_of, answer_of, install_of, proposal_of};
 
 /// A store's trees stand for the plain tables after the batches of the versions that it has
 /// installed: a proposal leaves them, and an install makes the proposed batch's work on them. A
@@ -45,10 +45,11 @@ pub fn stores_stay_honest()
         → IsHonestAfter (batches ++ batch ∷ []) next × (next.tables ≡ after_work s.tables batch) }
 {}
 
-/// What a store answers is taken by each client of its key that takes the installed version, and is
-/// the query's result on the plain tables.
+/// What a store answers is taken by each client of its key that takes the version, and is the
+/// query's result on the plain tables of that version: of the installed one, or of another that is
+/// kept. There is an answer by each of these, unless it is too large.
 pub fn answers_are_accepted()
-    ensures { (batches : List (List Command)) (s : StoreState) (installed : SignedRecord)
+    ensures newest { (batches : List (List Command)) (s : StoreState) (installed : SignedRecord)
         (least : ℕ) (q : Query) (bytes : List ℕ) → IsHonestAfter batches s
         → s.installed ≡ Some installed → FitsQuery q → least ≤ installed.rec.version
         → answer_of s q ≡ Ok bytes
@@ -56,6 +57,20 @@ pub fn answers_are_accepted()
           version = installed.rec.version;
           outcome = result_of q (tables_after batches);
         })) }
+    ensures kept { (batches : List (List Command)) (s : StoreState) (version least : ℕ) (q : Query)
+        (bytes : List ℕ) → IsHonestAfter batches s → FitsQuery q → least ≤ version
+        → answer_at_of s version q ≡ Ok bytes
+        → CheckOf s.key least q bytes (Ok (record {
+          version = version;
+          outcome = result_of q (tables_after (take version batches));
+        })) }
+    ensures there { (batches : List (List Command)) (s : StoreState) (installed : SignedRecord)
+        (version : ℕ) (q : Query) → IsHonestAfter batches s → s.installed ≡ Some installed
+        → oldest_of installed.rec.version ≤ version → version ≤ installed.rec.version
+        → IsAnswerBy s.key (take version batches) q (answer_at_of s version q) }
+    ensures same { (batches : List (List Command)) (s : StoreState) (installed : SignedRecord)
+        (q : Query) → IsHonestAfter batches s → s.installed ≡ Some installed
+        → answer_at_of s installed.rec.version q ≡ answer_of s q }
 {}
 
 /// Where an owner stands at a store's tables, the store's proofs lead it on to the roots of the

@@ -1,20 +1,17 @@
 //! A store that takes the entries of a journal.
-ghost use Rattle.std.specs.Prelude.{◌≡◌, ◌<◌, ◌∷◌, [], ℕ, Ok, Err, IfOk, drop, length};
+ghost use Rattle.std.specs.Prelude.{◌≡◌, ℕ, Ok, Err, IfOk};
 ghost use Rattle.std.specs.List.{AllByRecursion};
-ghost use Rattle.vo_spec.specs.Journals.{FitsEntry, batches_of};
-ghost use Rattle.vo_spec.specs.Honest.{honest_trees};
+ghost use Rattle.vo_spec.specs.Journals.{FitsEntry};
 ghost use Rattle.vo_spec.specs.Owners.{AreLoadable};
 ghost use Rattle.owner_state.specs.Walking.{StopsAt};
-ghost use Rattle.vo_store.specs.Loading.{last_signed, load_entries, store_behind};
+ghost use Rattle.vo_store.specs.Loading.{TakesEntry, load_entries, store_behind};
 
 use crate::fault::LoadFault;
 use crate::signed_record::SignedRecord;
 use crate::store::Store;
 use lms_sign::PublicKey;
-use owner_state::{JournalFault, LentEntry, walk_loadable};
+use owner_state::{LentEntry, check_next_of_store};
 use std::alloc::{AllocError, Global};
-use stored_tables::StoredTables;
-use vo_spec::List;
 
 impl Store {
     /// A store of the key that has taken these entries, from entry 0 on: of it the record is
@@ -36,47 +33,37 @@ impl Store {
         ensures stops { (index : ℕ) → result ≡ Err (LoadFault.Entry index)
             → StopsAt (AreLoadable key) entries.now index }
     {
-        match walk_loadable(alloc, &key, entries) {
-            Ok(tables) => Ok(store_of(alloc, key, entries, tables)?),
-            Err(JournalFault::BadAt { index }) => Err(LoadFault::Entry { index }),
-            Err(JournalFault::Memory) => Err(LoadFault::Memory),
+        let mut store = Store::new(alloc, key)?;
+        for (index, entry) in entries.iter().enumerate() {
+            if !store.take_entry(alloc, &entries[..index], entry)? {
+                let index = index as u64;
+                return Err(LoadFault::Entry { index });
+            }
+        }
+        Ok(store)
+    }
+
+    /// Installs the version of an entry, if a store takes it behind those before.
+    fn take_entry(
+        &mut self,
+        alloc: Global,
+        earlier: &[LentEntry<'_>],
+        entry: &LentEntry<'_>,
+    ) -> Result<bool, AllocError>
+        requires earlier_fit { AllByRecursion FitsEntry earlier.now }
+        requires fits { FitsEntry entry.now }
+        requires taken { AreLoadable self.old.key earlier.now }
+        requires behind { self.old ≡ store_behind self.old.key earlier.now }
+        ensures { IfOk result (TakesEntry self.old.key earlier.now entry.now self.new) }
+    {
+        let tables = self.tables.share(alloc)?;
+        match check_next_of_store(alloc, &self.key, earlier, tables, entry)? {
+            Some(after) => {
+                let installed = SignedRecord::new(alloc, entry.rec(), entry.signature())?;
+                self.install_version(alloc, installed, after)?;
+                Ok(true)
+            }
+            None => Ok(false),
         }
     }
-}
-
-/// The store behind entries that a store takes, the tables being those behind the last of them.
-pub(crate) fn store_of(
-    alloc: Global,
-    key: PublicKey,
-    entries: &[LentEntry<'_>],
-    tables: StoredTables,
-) -> Result<Store, AllocError>
-    requires fit { AllByRecursion FitsEntry entries.now }
-    requires taken { AreLoadable key entries.now }
-    requires tables { tables ≡ honest_trees (batches_of (drop 1 entries.now)) }
-    ensures { IfOk result (λ store. store ≡ store_behind key entries.now) }
-{
-    if entries.is_empty() {
-        return Store::new(alloc, key);
-    }
-    let installed = last_signed(alloc, entries)?;
-    Ok(Store {
-        key,
-        installed: Some(installed),
-        tables,
-        pending: None,
-    })
-}
-
-/// The record of the last entry, with its signature.
-fn last_signed(alloc: Global, entries: &[LentEntry<'_>]) -> Result<SignedRecord, AllocError>
-    requires { 0 < length entries.now }
-    ensures { IfOk result (λ last. last_signed entries.now ≡ Some last) }
-{
-    let last = &entries[entries.len() - 1];
-    let signature = Vec::from_slice(alloc, last.signature())?;
-    Ok(SignedRecord {
-        rec: *last.rec(),
-        signature: List::from_vec(signature),
-    })
 }

@@ -1,7 +1,9 @@
-//! A store: the tables of the version that is installed, and those of the version that is proposed.
-use crate::answering::answer_by_tables;
+//! A store: the tables of the version that is installed, those of the last versions before it, and
+//! those of the version that is proposed.
+use crate::answering::{answer_by_kept, answer_by_tables, oldest_version};
 use crate::fault::StoreFault;
-use crate::installing::{next_version, signed_record};
+use crate::installing::{keep_installed, next_version, signed_record};
+use crate::kept_version::KeptVersion;
 use crate::proposing::{Proposal, propose_batch};
 use crate::signed_record::SignedRecord;
 use lms_sign::PublicKey;
@@ -14,9 +16,11 @@ use vo_spec::{Batch, QueryText, Record};
 #[derive(Drop)]
 pub struct Store {
     pub(crate) key: PublicKey,
-    pub(crate) installed: Option<SignedRecord>,
+    /// The versions before the installed one that are kept, oldest first.
+    earlier: Vec<KeptVersion>,
+    installed: Option<SignedRecord>,
     pub(crate) tables: StoredTables,
-    pub(crate) pending: Option<StoredTables>,
+    pending: Option<StoredTables>,
 }
 
 impl Model for Store {
@@ -30,6 +34,7 @@ impl Model for Store {
 
     ghost view = { λ store. record {
       key = store.key;
+      earlier = store.earlier.items;
       installed = store.installed;
       tables = store.tables;
       pending = store.pending;
@@ -37,6 +42,7 @@ impl Model for Store {
 
     ghost invariant = { λ store. IsHonestStore (record {
       key = store.key;
+      earlier = store.earlier.items;
       installed = store.installed;
       tables = store.tables;
       pending = store.pending;
@@ -44,11 +50,11 @@ impl Model for Store {
 }
 
 impl Store {
-    ghost use Rattle.std.specs.Prelude.{◌≡◌, IfOk, OnErr, option_map};
+    ghost use Rattle.std.specs.Prelude.{◌≡◌, IfOk, OnErr, OnOk, option_map};
     ghost use Rattle.vo_spec.specs.Batches.{FitsBatch};
     ghost use Rattle.vo_spec.specs.Conditions.{query_of};
-    ghost use Rattle.vo_store.specs.StoreState.{new_store};
-    ghost use Rattle.vo_store.specs.Calls.{FitProofs, Gives, answer_of, install_of, proposal_of};
+    ghost use Rattle.vo_store.specs.StoreState.{new_store, with_installed};
+    ghost use Rattle.vo_store.specs.Calls.{FitProofs, Gives, answer_at_of, answer_of, install_of, proposal_of};
     ghost use Rattle.vo_store.specs.HonestStores.{IsHonestStore};
 
     /// A store of the key that has installed nothing: version 0, which has no tables, is proposed.
@@ -57,6 +63,7 @@ impl Store {
     {
         Ok(Store {
             key,
+            earlier: Vec::new(alloc),
             installed: None,
             tables: StoredTables::new(alloc),
             pending: Some(StoredTables::new(alloc)),
@@ -101,14 +108,27 @@ impl Store {
         };
         let version = next_version(&self.installed);
         match signed_record(alloc, &self.key, version, &after, rec, signature) {
-            Ok(installed) => {
-                self.installed = Some(installed);
-                self.tables = after;
-                self.pending = None;
-                Ok(())
-            }
+            Ok(installed) => Ok(self.install_version(alloc, installed, after)?),
             Err(fault) => Err(fault),
         }
+    }
+
+    /// Installs a version. That which was installed is kept.
+    pub(crate) fn install_version(
+        &mut self,
+        alloc: Global,
+        installed: SignedRecord,
+        tables: StoredTables,
+    ) -> Result<(), AllocError>
+        requires { IsHonestStore (with_installed installed tables self.old) }
+        ensures done { OnOk result (self.new ≡ with_installed installed tables self.old) }
+        ensures left { OnErr result (self.new ≡ self.old) }
+    {
+        keep_installed(alloc, &self.installed, &self.tables, &mut self.earlier)?;
+        self.installed = Some(installed);
+        self.tables = tables;
+        self.pending = None;
+        Ok(())
     }
 
     /// The reply to the query, as bytes, by the version that is installed.
@@ -117,6 +137,34 @@ impl Store {
     {
         match &self.installed {
             Some(installed) => answer_by_tables(alloc, installed, &self.tables, query),
+            None => Err(StoreFault::Empty),
+        }
+    }
+
+    /// The reply to the query, as bytes, by a version that is kept.
+    pub fn answer_at(
+        &self,
+        alloc: Global,
+        version: u64,
+        query: &QueryText,
+    ) -> Result<Vec<u8>, StoreFault>
+        ensures { Gives (λ bytes. bytes.items) result
+            (answer_at_of self.now version (query_of query.now)) }
+    {
+        match &self.installed {
+            Some(installed) => {
+                let newest = installed.rec.version;
+                let oldest = oldest_version(newest);
+                if version < oldest || newest < version {
+                    return Err(StoreFault::NoVersion {
+                        version,
+                        oldest,
+                        newest,
+                    });
+                }
+                let place = (version - oldest) as usize;
+                answer_by_kept(alloc, &self.earlier, installed, &self.tables, place, query)
+            }
             None => Err(StoreFault::Empty),
         }
     }
