@@ -330,6 +330,15 @@ class Calls:
             return forms.form("BadJournal", str(fault.index))
         return store.answer(parse_query(query.decode())).hex()
 
+    def answer_at(self, key, query, journal, version):
+        try:
+            store, _ = load_store(lms.PublicKey.read(key), journal)
+            return store.answer_at(number(version), parse_query(query.decode())).hex()
+        except EntryFault as fault:
+            return forms.form("BadJournal", str(fault.index))
+        except StoreFault as fault:
+            return forms.form(fault.name, *map(str, fault.fields.values()))
+
 
 def roots_text(roots):
     return f"{roots.version} {catalog_text(roots.catalog)}"

@@ -492,6 +492,10 @@ def journal_rows():
     for version in range(8):
         yield "owned", public, bytes([version]), changed
     yield "taken", public, changed
+    # versions that are kept, one behind the last, and of a journal that no store takes
+    for version in range(9):
+        yield "answer_at", public, b"SELECT * FROM t", changed, bytes([version])
+    yield "answer_at", public, b"SELECT * FROM t", changed[:2000] + b"\0", b"\0"
     # a version more than the key has leaves; a command that is refused by itself, behind others, and behind batches
     yield ("seal", *[b"\0\0"] * 32)
     yield seal_row(CHANGES[2])
@@ -527,6 +531,14 @@ def pair_journal_rows():
     yield "taken", public, over.journal()
     yield "replay", over.journal()
     yield "step", over.journal(), bytes_of(CREATE), over.proofs(CREATE)
+    yield from kept_rows(public, Owned(secret, *[CREATE, CHANGES[2]] * 35).journal())
+
+
+def kept_rows(public, journal):
+    """Replies by a journal of 71 versions: those from 7 on are kept."""
+    for version in 0, 6, 7, 8, 69, 70, 71, 256:
+        yield "answer_at", public, b"SELECT * FROM t", journal, version.to_bytes(2, "big")
+    yield "answer", public, b"SELECT * FROM t", journal
 
 
 def read_rows(public, journal):

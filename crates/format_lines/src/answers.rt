@@ -8,7 +8,7 @@ use crate::line::read_line;
 use crate::one_time::{candidate, checksum, digit, ots_public, ots_sign};
 use crate::owners::{next, owned_entries, replay_entries, start, step};
 use crate::records::{catalog, record};
-use crate::replies::{answer_by, begin, proofs, reply};
+use crate::replies::{answer_at, answer_by, begin, proofs, reply};
 use crate::rows::{attribute, cell, closed_row, hide, hide_cells, row, value, whole_row};
 use crate::state::{State, keep};
 use line_pieces::NoAnswer;
@@ -93,6 +93,7 @@ fn by_formats(alloc: Global, call: Call, strings: &[Vec<u8>]) -> Result<String, 
         Call::Owned => owned_journal(alloc, strings),
         Call::Taken => taken_journal(alloc, strings),
         Call::Answer => answer_by(alloc, strings),
+        Call::AnswerAt => answer_at(alloc, strings),
         Call::Next => next(alloc, strings),
         Call::OwnedEntries => owned_entries(alloc, strings),
         _ => Err(NoAnswer::NoSuchLine),

@@ -42,6 +42,7 @@ pub enum Call {
     Owned,
     Taken,
     Answer,
+    AnswerAt,
     Start,
     Next,
     Step,
@@ -50,7 +51,7 @@ pub enum Call {
 }
 
 /// The calls by their words.
-const CALLS: [(&str, Call); 43] = [
+const CALLS: [(&str, Call); 44] = [
     ("digest", Call::Digest),
     ("hash", Call::Hash),
     ("collision", Call::Collision),
@@ -89,6 +90,7 @@ const CALLS: [(&str, Call); 43] = [
     ("owned", Call::Owned),
     ("taken", Call::Taken),
     ("answer", Call::Answer),
+    ("answer_at", Call::AnswerAt),
     ("start", Call::Start),
     ("next", Call::Next),
     ("step", Call::Step),

@@ -17,7 +17,7 @@ use owner_state::{
     read_slots, seal as sealed,
 };
 use std::alloc::Global;
-use vo_spec::{Batch, List};
+use vo_spec::{Batch, Catalog, List};
 
 /// How a journal ends, and the slots of its entries again.
 pub fn slots(alloc: Global, strings: &[Vec<u8>]) -> Result<String, NoAnswer> {
@@ -181,10 +181,22 @@ fn bad_entry_text(alloc: Global, fault: JournalFault) -> Result<String, NoAnswer
 }
 
 fn owned_text(alloc: Global, owned: &OwnedJournal<'_>) -> Result<String, NoAnswer> {
-    let count = owned.entries.len();
-    match &owned.tables {
-        Some(tables) => {
-            let catalog = last_catalog_text(alloc, tables.catalog(alloc)?)?;
+    let catalog = match &owned.tables {
+        Some(tables) => Some(tables.catalog(alloc)?),
+        None => None,
+    };
+    version_text(alloc, owned.entries.len(), catalog)
+}
+
+/// How many entries there are, and the catalog of a version, if they have that.
+fn version_text(
+    alloc: Global,
+    count: usize,
+    catalog: Option<Catalog>,
+) -> Result<String, NoAnswer> {
+    match catalog {
+        Some(catalog) => {
+            let catalog = last_catalog_text(alloc, catalog)?;
             Ok(format!(in alloc; "{count} {catalog}")?)
         }
         None => Ok(format!(in alloc; "{count} no such version")?),
@@ -196,7 +208,7 @@ pub fn taken_journal(alloc: Global, strings: &[Vec<u8>]) -> Result<String, NoAns
     let [key, journal] = strings else {
         return Err(NoAnswer::NoSuchLine);
     };
-    match read_loadable(alloc, &read_key(key)?, journal) {
+    match read_loadable(alloc, &read_key(key)?, journal, None) {
         Ok(taken) => {
             let text = taken_text(alloc, &taken);
             drop(taken);
@@ -207,6 +219,9 @@ pub fn taken_journal(alloc: Global, strings: &[Vec<u8>]) -> Result<String, NoAns
 }
 
 fn taken_text(alloc: Global, taken: &LoadableJournal<'_>) -> Result<String, NoAnswer> {
-    let catalog = last_catalog_text(alloc, taken.tables.catalog(alloc)?)?;
-    Ok(format!(in alloc; "{} {catalog}", taken.entries.len())?)
+    let catalog = match &taken.tables {
+        Some(tables) => Some(tables.catalog(alloc)?),
+        None => None,
+    };
+    version_text(alloc, taken.entries.len(), catalog)
 }

@@ -4,7 +4,7 @@ ghost use Rattle.vo_spec.specs.Replies.{FitsProofs, FitsReply};
 ghost use Rattle.mb_tree.specs.View.{part_of};
 ghost use Rattle.vo_format.specs.View.{reply_of};
 
-use crate::arguments::array_of;
+use crate::arguments::{array_of, number_of};
 use crate::keys::read_key;
 use crate::records::read_fault;
 use line_pieces::{NoAnswer, query_in};
@@ -14,7 +14,7 @@ use vo_format::{
     PartTree, Reply, begin_proofs, read_proofs, read_reply, write_proofs, write_reply,
 };
 use vo_spec::QueryText;
-use vo_store::{ReplyFault, reply_by};
+use vo_store::{ReplyFault, reply_at, reply_by};
 
 /// A reply's version, its signature's length, its number of trees, and its bytes again.
 pub fn reply(alloc: Global, strings: &[Vec<u8>]) -> Result<String, NoAnswer> {
@@ -91,10 +91,32 @@ fn answer_to(
     query: &QueryText,
     journal: &[u8],
 ) -> Result<String, NoAnswer> {
-    match reply_by(alloc, key, journal, query) {
+    reply_line(alloc, reply_by(alloc, key, journal, query))
+}
+
+fn reply_line(alloc: Global, reply: Result<Vec<u8>, ReplyFault>) -> Result<String, NoAnswer> {
+    match reply {
         Ok(reply) => Ok(hex::encode(alloc, reply)?),
         Err(ReplyFault::BadJournal { index }) => Ok(format!(in alloc; "(BadJournal {index})")?),
         Err(ReplyFault::TooLarge { length }) => Ok(format!(in alloc; "(TooLarge {length})")?),
+        Err(ReplyFault::NoVersion {
+            version,
+            oldest,
+            newest,
+        }) => Ok(format!(in alloc; "(NoVersion {version} {oldest} {newest})")?),
         Err(ReplyFault::Memory) => Err(NoAnswer::Memory),
     }
+}
+
+/// The reply to a query by a version that the store of a key keeps once it has loaded a journal.
+pub fn answer_at(alloc: Global, strings: &[Vec<u8>]) -> Result<String, NoAnswer> {
+    let [key, query, journal, version] = strings else {
+        return Err(NoAnswer::NoSuchLine);
+    };
+    let key = read_key(key)?;
+    let version = number_of(version)?;
+    let query = query_in(alloc, query)?;
+    let reply = reply_at(alloc, key, journal, version, &query);
+    drop(query);
+    reply_line(alloc, reply)
 }

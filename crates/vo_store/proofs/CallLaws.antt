@@ -1,15 +1,15 @@
 -- What the calls give, by a store's fields.
-use Rattle.std.proofs.Common.{◌≡◌, ℕ, ◌-◌, ◌≤◌, Bool, true, false, cond, List, Option, Some, None, Result, Ok, Err, refl, sym, ap, subst, ◌∙◌}
+use Rattle.std.proofs.Common.{◌≡◌, ℕ, ◌-◌, ◌<◌, ◌≤◌, Bool, true, false, cond, List, Option, Some, None, Result, Ok, Err, length, refl, sym, ap, subst, ◌∙◌, arith}
 use Rattle.std.specs.Prelude.{◌&&◌, is_none, nat_le, IsSome}
 use Rattle.std.specs.Option.{option_map_or}
-use Rattle.std.proofs.lemmas.Bool.{and_from, and_parts, le-leb, leb-true}
+use Rattle.std.proofs.lemmas.Bool.{and_from, and_parts, le-leb, leb-false, leb-true}
 use Rattle.vo_spec.specs.declared.tables.Command.{Command}
 use Rattle.vo_spec.specs.declared.tables.CommandFault.{CommandFault}
 use Rattle.vo_spec.specs.declared.records.Record.{Record}
 use Rattle.vo_spec.specs.Batches.{FitsBatch}
 use Rattle.vo_spec.specs.Conditions.{Query}
 use Rattle.vo_spec.specs.Firsts.{and_then}
-use Rattle.vo_spec.specs.Replies.{proofs_bytes}
+use Rattle.vo_spec.specs.Replies.{max_reply, proofs_bytes}
 use Rattle.vo_spec.specs.Honest.{Stored, honest_proofs, honest_record}
 use Rattle.stored_tables.specs.Working.{work_from}
 use Rattle.vo_store.specs.declared.fault.StoreFault.{StoreFault}
@@ -20,7 +20,7 @@ use Rattle.owner_state.proofs.WorkTurns.{work_done}
 use Rattle.vo_store.specs.HonestStores.{IsHonestStore}
 use Rattle.vo_store.proofs.HonestLaws.{installed_honest, proposed_honest}
 use Rattle.vo_store.proofs.InstallLaws.{good_only}
-use Rattle.vo_store.specs.Calls.{Gives, answer_at_of, answer_of, install_of, kept_at, next_version, proposal_of, reply_by_kept, reply_of_version, signed_reply, signed_record, with_proofs}
+use Rattle.vo_store.specs.Calls.{Gives, answer_at_of, answer_of, install_of, kept_at, next_version, proposal_of, reply_by_kept, reply_of_version, signed_reply, signed_record, with_proofs, within_limit}
 
 -- a fault is handed on
 pub fault_on : {X Y Z W : Type 0} (view : X → Y) (other : Z → W) (go : Y → Result W StoreFault) (why : StoreFault) (answer : Result Y StoreFault) → Gives view (Err why) answer
@@ -33,6 +33,28 @@ fault_on view other go fault.BadSignature answer g = ap (and_then go) g
 fault_on view other go (fault.TooLarge size) answer g = ap (and_then go) g
 fault_on view other go fault.Empty answer g = ap (and_then go) g
 fault_on view other go (fault.NoVersion version oldest newest) answer g = ap (and_then go) g
+
+-- The limit of replies.
+
+module _ (own : List ℕ) where
+  abbrev limit_by : Bool → Result (List ℕ) StoreFault
+  limit_by b = cond b (Ok own) (Err (fault.TooLarge (length own)))
+
+  pub limit_kept : (bytes : List ℕ) → within_limit own ≡ Ok bytes → (bytes ≡ own) × (length bytes ≤ max_reply)
+  limit_kept bytes e = step (nat_le (length own) max_reply) refl e
+    where
+      step : (b : Bool) → nat_le (length own) max_reply ≡ b → limit_by b ≡ Ok bytes → (bytes ≡ own) × (length bytes ≤ max_reply)
+      step true f g = let same : own ≡ bytes = cc in (sym same, subst (λ (t : List ℕ). length t ≤ max_reply) same (leb-true (length own) max_reply f))
+      step false f g = absurd (cc)
+
+  pub limit_passed : (size : ℕ) → within_limit own ≡ Err (fault.TooLarge size) → (size ≡ length own) × (max_reply < size)
+  limit_passed size e = step (nat_le (length own) max_reply) refl e
+    where
+      step : (b : Bool) → nat_le (length own) max_reply ≡ b → limit_by b ≡ Err (fault.TooLarge size) → (size ≡ length own) × (max_reply < size)
+      step true f g = absurd (cc)
+      step false f g =
+          let same : length own ≡ size = cc in
+          (sym same, omega (arith, leb-false (length own) max_reply f, same))
 
 module _ (s : StoreState) where
   -- Queries.
@@ -86,9 +108,9 @@ module _ (s : StoreState) where
       pub below : version ≤ installed.rec.version
       pub reply : reply_by_kept q (kept_at s.earlier installed s.tables (version - oldest_of installed.rec.version)) ≡ Ok bytes
 
-    pub answers_at : (bytes : List ℕ) → answer_at_of s version q ≡ Ok bytes → AnswersAt bytes
+    pub answered_at : (bytes : List ℕ) → answer_at_of s version q ≡ Ok bytes → AnswersAt bytes
     unfolding answer_at_of
-    answers_at bytes e = step s.installed refl e
+    answered_at bytes e = step s.installed refl e
       where
         inner : (installed : SignedRecord) → s.installed ≡ Some installed → (b : Bool) → kept_test installed ≡ b → replies_by installed b ≡ Ok bytes → AnswersAt bytes
         inner installed i false t f = absurd (cc)

@@ -1,87 +1,156 @@
--- The reply of a store that has loaded a journal.
-use Rattle.std.proofs.Common.{◌≡◌, ℕ, ◌-◌, ◌<◌, ◌≤◌, Bool, true, false, cond, List, [], ◌∷◌, Some, Result, Ok, Err, length, refl, sym, ap, subst, ◌∙◌, arith}
-use Rattle.std.specs.Prelude.{IfOk, nat_le, option_map, slice_get}
+-- The replies by the entries of a journal.
+use Rattle.std.proofs.Common.{◌≡◌, ℕ, zero, suc, ◌+◌, ◌-◌, ◌<◌, ◌≤◌, List, [], ◌∷◌, Some, Result, Ok, Err, length, take, drop, refl, sym, ap, subst, ◌∙◌, arith}
+use Rattle.std.specs.Prelude.{◌⊎◌, IfOk, option_map, slice_get}
 use Rattle.std.specs.Global.{Vec}
 use Rattle.std.specs.List.{AllByRecursion}
-use Rattle.std.proofs.lemmas.Bool.{leb-true, leb-false}
+use Rattle.std.proofs.lemmas.List.{length-drop, length-map, length-take-le, take_all}
+use Rattle.std.proofs.lemmas.Option.{slice_get_within}
+use Rattle.vo_spec.specs.declared.tables.Command.{Command}
 use Rattle.vo_spec.specs.declared.records.Entry.{Entry}
 use Rattle.vo_spec.specs.Conditions.{Query}
-use Rattle.vo_spec.specs.Journals.{FitsEntry, batches_of}
+use Rattle.vo_spec.specs.Journals.{FitsEntry, batches_of, last_version}
 use Rattle.vo_spec.specs.Owners.{AreLoadable, IsLoadable}
 use Rattle.vo_spec.specs.Replies.{Reply, max_reply, reply_bytes}
-use Rattle.vo_spec.specs.Honest.{honest_reply, honest_trees, reply_of}
+use Rattle.vo_spec.specs.Honest.{Stored, honest_record, honest_reply, honest_trees, reply_of}
+use Rattle.vo_laws.proofs.EntryLaws.{entry_held, fit_at}
+use Rattle.owner_state.specs.Departing.{trees_at}
+use Rattle.owner_state.proofs.DepartLaws.{first_trees}
 use Rattle.vo_store.specs.declared.fault.StoreFault.{StoreFault}
-use Rattle.vo_store.specs.declared.fault.StoreFault.TheVariants as fault
-use Rattle.vo_store.specs.StoreState.{StoreState}
-use Rattle.vo_store.specs.Calls.{answer_of, within_limit}
-use Rattle.vo_store.specs.Loading.{store_behind}
 use Rattle.vo_store.specs.declared.fault.ReplyFault.{ReplyFault}
 use Rattle.vo_store.specs.declared.fault.ReplyFault.TheVariants as reply
-use Rattle.vo_store.specs.Replying.{IsReplyBy, IsTooLarge, Replies}
-use Rattle.vo_store.proofs.CallLaws.{answer_some}
-use Rattle.vo_store.proofs.LoadLaws.{last_there, last_signed_is}
+use Rattle.vo_store.specs.StoreState.{oldest_of}
+use Rattle.vo_store.specs.HonestStores.{IsAnswering, IsRecordOf}
+use Rattle.vo_store.specs.Calls.{within_limit}
+use Rattle.vo_store.specs.Loading.{signed_of}
+use Rattle.vo_store.specs.Replying.{AreTaken, IsKeptIn, IsNoVersion, IsReplyAt, IsReplyBy, IsTooLarge, IsTooLargeAt, Replies, RepliesAt}
+use Rattle.vo_store.proofs.CallLaws.{limit_kept, limit_passed}
+use Rattle.vo_store.proofs.HonestLaws.{kept_answers}
+use Rattle.vo_store.proofs.LoadLaws.{last_there}
 use Rattle.vo_store.proofs.ReplyLaws.{journal_fits}
 
-record HasAnswer (key : List ℕ) (es : List Entry) (q : Query) : Type 0 where
-  r : Reply
-  reply_is : reply_of q es ≡ Some r
-  answer_is : within_limit (reply_bytes r) ≡ answer_of (store_behind key es) q
+-- The reply by an entry.
 
-has_answer : (key : List ℕ) (es : List Entry) (q : Query) → 0 < length es → HasAnswer key es q
-unfolding store_behind
-has_answer key [] q some = absurd (omega (arith, some))
-has_answer key (f ∷ front) q some =
-    let last : Entry = (last_there f front).0 in
-    let n : length (f ∷ front) - 1 ≡ length front = omega arith in
-    record {
-      r = honest_reply q last.rec last.signature (honest_trees (batches_of front));
-      reply_is = ap (λ (i : ℕ). option_map (λ (e : Entry). honest_reply q e.rec e.signature (honest_trees (batches_of front))) (slice_get (f ∷ front) i)) n
-          ∙ ap (option_map (λ (e : Entry). honest_reply q e.rec e.signature (honest_trees (batches_of front)))) (last_there f front).1;
-      answer_is = answer_some (store_behind key (f ∷ front)) q (record { rec = last.rec; signature = last.signature }) (last_signed_is f front);
-    }
+slice_take : (es : List Entry) (v : ℕ) (e : Entry) → slice_get es v ≡ Some e → slice_get (take (v + 1) es) v ≡ Some e
+slice_take [] v e found = absurd (cc)
+slice_take (x ∷ es) zero e found = found
+slice_take (x ∷ es) (suc v) e found = ap (λ (n : ℕ). slice_get (take n (x ∷ es)) (suc v)) (let e : suc v + 1 ≡ suc (v + 1) = omega arith in e) ∙ slice_take es v e found
+
+pub reply_is : (q : Query) (es : List Entry) (v : ℕ) (e : Entry) → slice_get es v ≡ Some e → reply_of q (take (v + 1) es) ≡ Some (honest_reply q e.rec e.signature (trees_at v es))
+reply_is q es v e found =
+    let first : List Entry = take (v + 1) es in
+    let within : v < length es = slice_get_within es v e found in
+    let last : length first - 1 ≡ v = omega (arith, length-take-le (v + 1) es (omega (arith, within))) in
+    let by : Entry → Reply = λ (x : Entry). honest_reply q x.rec x.signature (honest_trees (batches_of (drop 1 first))) in
+    ap (λ (i : ℕ). option_map by (slice_get first i)) last ∙ ap (option_map by) (slice_take es v e found) ∙ ap (λ (ss : List Stored). Some (honest_reply q e.rec e.signature ss)) (first_trees v es)
+
+entry_record : (key : List ℕ) (es : List Entry) (v : ℕ) (e : Entry) → AreLoadable key es → slice_get es v ≡ Some e → IsRecordOf key (batches_of (take v (drop 1 es))) (signed_of e)
+entry_record key es v e loadable found =
+    let held = entry_held key es v e loadable found in
+    let within : v < length es = slice_get_within es v e found in
+    let rest : length (drop 1 es) ≡ length es - 1 = length-drop 1 es in
+    let many : v ≤ length (drop 1 es) = omega (arith, within, rest) in
+    let long : length (batches_of (take v (drop 1 es))) ≡ v = length-map (take v (drop 1 es)) (λ (x : Entry). x.batch.commands) ∙ length-take-le v (drop 1 es) many in
+    record { record_is = held.record_is ∙ ap (λ (n : ℕ). honest_record key n (trees_at v es)) (sym long); signed = held.signed }
+
+pub entry_answers : (es : List Entry) (v : ℕ) (e : Entry) → AllByRecursion FitsEntry es → AreTaken es → slice_get es v ≡ Some e → IsAnswering (record { signed = signed_of e; tables = trees_at v es })
+entry_answers es v e fit taken found =
+    kept_answers taken.0 (batches_of (take v (drop 1 es))) (record { signed = signed_of e; tables = trees_at v es }) (fit_at v es fit)
+    (record { signed = entry_record taken.0 es v e taken.1 found; tables = refl })
+
+-- a call that gives the reply of an entry gives the one of its version
+pub by_entry : (q : Query) (es : List Entry) (v : ℕ) (e : Entry) (result : Result (Vec ℕ) ReplyFault) → slice_get es v ≡ Some e
+    → Replies result (within_limit (reply_bytes (honest_reply q e.rec e.signature (trees_at v es)))) → (r : Reply) → reply_of q (take (v + 1) es) ≡ Some r
+    → Replies result (within_limit (reply_bytes r))
+by_entry q es v e result found is r f =
+    let same : honest_reply q e.rec e.signature (trees_at v es) ≡ r = let both : Some (honest_reply q e.rec e.signature (trees_at v es)) ≡ Some r = sym (reply_is q es v e found) ∙ f in cc in
+    subst (λ (x : Reply). Replies result (within_limit (reply_bytes x))) same is
+
+-- the last entry's is that of all
+pub all_of : (q : Query) (es : List Entry) (result : Result (Vec ℕ) ReplyFault) → 0 < length es
+    → ((r : Reply) → reply_of q (take (last_version es + 1) es) ≡ Some r → Replies result (within_limit (reply_bytes r))) → (r : Reply) → reply_of q es ≡ Some r
+    → Replies result (within_limit (reply_bytes r))
+all_of q es result some told r e = told r (ap (reply_of q) (take_all (last_version es + 1) es (omega (arith, some))) ∙ e)
+
+entry_at : (es : List Entry) (v : ℕ) → v < length es → (e : Entry) × (slice_get es v ≡ Some e)
+entry_at [] v within = absurd (omega (arith, within))
+entry_at (x ∷ es) zero within = (x, refl)
+entry_at (x ∷ es) (suc v) within = entry_at es v (omega (arith, within))
+
+has_reply : (q : Query) (es : List Entry) (v : ℕ) → v < length es → (r : Reply) × (reply_of q (take (v + 1) es) ≡ Some r)
+has_reply q es v within =
+    let e = entry_at es v within in
+    (honest_reply q e.0.rec e.0.signature (trees_at v es), reply_is q es v e.0 e.1)
+
+-- a call for a version that is kept
+pub at_version : (q : Query) (es : List Entry) (v : ℕ) (result : Result (Vec ℕ) ReplyFault) → 0 < length es → IsKeptIn es v
+    → ((r : Reply) → reply_of q (take (v + 1) es) ≡ Some r → Replies result (within_limit (reply_bytes r))) → RepliesAt v q es result
+at_version q es v (Err (reply.NoVersion wanted oldest newest)) some kept told = let r = has_reply q es v (omega (arith, some, kept.1)) in absurd (told r.0 r.1)
+at_version q es v (Ok bytes) some kept told = (kept, told)
+at_version q es v (Err (reply.BadJournal index)) some kept told = (kept, told)
+at_version q es v (Err (reply.TooLarge size)) some kept told = (kept, told)
+at_version q es v (Err reply.Memory) some kept told = (kept, told)
 
 module _ (key journal : List ℕ) (es : List Entry) (loadable : IsLoadable key journal es) where
   pub entries_fit : AllByRecursion FitsEntry es
   unfolding IsLoadable
   entries_fit = journal_fits journal es loadable.0
 
-  pub entries_taken : AreLoadable key es
+  pub entries_taken : AreTaken es
   unfolding IsLoadable
-  entries_taken = loadable.1
+  entries_taken = (key, loadable.1)
+
+  pub entries_some : 0 < length es
+  unfolding IsLoadable
+  entries_some = loadable.2
 
   module _ (q : Query) where
-    answer : HasAnswer key es q
-    unfolding IsLoadable
-    answer = has_answer key es q loadable.2
+    -- The reply by the last.
 
-    abbrev bytes_now : List ℕ
-    bytes_now = reply_bytes answer.r
+    newest : (r : Reply) × (reply_of q es ≡ Some r)
+    newest =
+        let r = has_reply q es (last_version es) (omega (arith, entries_some)) in
+        (r.0, sym (ap (reply_of q) (take_all (last_version es + 1) es (omega (arith, entries_some)))) ∙ r.1)
 
-    abbrev within_by : Bool → Result (List ℕ) StoreFault
-    within_by b = cond b (Ok bytes_now) (Err (fault.TooLarge (length bytes_now)))
+    abbrev Tells : Result (Vec ℕ) ReplyFault → Type 0
+    Tells result = (r : Reply) → reply_of q es ≡ Some r → Replies result (within_limit (reply_bytes r))
 
-    pub replied : (s : StoreState) (bytes : List ℕ) → s ≡ store_behind key es → answer_of s q ≡ Ok bytes → IsReplyBy key journal q bytes
-    replied s bytes e a = step (nat_le (length bytes_now) max_reply) refl (answer.answer_is ∙ ap (λ (t : StoreState). answer_of t q) (sym e) ∙ a)
-      where
-        step : (b : Bool) → nat_le (length bytes_now) max_reply ≡ b → within_by b ≡ Ok bytes → IsReplyBy key journal q bytes
-        step true l f =
-            let same : bytes_now ≡ bytes = cc in
-            ((es, answer.r, loadable, answer.reply_is, sym same), subst (λ (t : List ℕ). length t ≤ max_reply) same (leb-true (length bytes_now) max_reply l))
-        step false l f = absurd (cc)
+    pub reply_told : (result : Result (Vec ℕ) ReplyFault) → Tells result → IfOk result (λ bytes. IsReplyBy key journal q bytes.items)
+    reply_told (Ok bytes) told =
+        let w = limit_kept (reply_bytes newest.0) bytes.items (told newest.0 newest.1) in
+        ((es, newest.0, loadable, newest.1, w.0), w.1)
+    reply_told (Err why) told = tt
 
-    pub too_large : (s : StoreState) (size : ℕ) → s ≡ store_behind key es → answer_of s q ≡ Err (fault.TooLarge size) → IsTooLarge key journal q size
-    too_large s size e a = step (nat_le (length bytes_now) max_reply) refl (answer.answer_is ∙ ap (λ (t : StoreState). answer_of t q) (sym e) ∙ a)
-      where
-        step : (b : Bool) → nat_le (length bytes_now) max_reply ≡ b → within_by b ≡ Err (fault.TooLarge size) → IsTooLarge key journal q size
-        step true l f = absurd (cc)
-        step false l f =
-            let same : length bytes_now ≡ size = cc in
-            (bytes_now, (es, answer.r, loadable, answer.reply_is, refl), sym same, omega (arith, leb-false (length bytes_now) max_reply l, same))
+    pub large_told : (result : Result (Vec ℕ) ReplyFault) → Tells result → (size : ℕ) → result ≡ Err (reply.TooLarge size) → IsTooLarge key journal q size
+    large_told result told size is =
+        let w = limit_passed (reply_bytes newest.0) size (subst (λ (x : Result (Vec ℕ) ReplyFault). Replies x (within_limit (reply_bytes newest.0))) is (told newest.0 newest.1)) in
+        (reply_bytes newest.0, (es, newest.0, loadable, newest.1, refl), w.0, w.1)
 
-    pub reply_told : (s : StoreState) (r : Result (Vec ℕ) ReplyFault) → s ≡ store_behind key es → Replies r (answer_of s q) → IfOk r (λ bytes. IsReplyBy key journal q bytes.items)
-    reply_told s (Ok bytes) e t = replied s bytes.items e t
-    reply_told s (Err why) e t = tt
+    pub always_kept : (result : Result (Vec ℕ) ReplyFault) → Tells result → (version oldest newest : ℕ) → result ≡ Err (reply.NoVersion version oldest newest) → ⊥
+    always_kept result told version oldest newest_is is =
+        subst (λ (x : Result (Vec ℕ) ReplyFault). Replies x (within_limit (reply_bytes newest.0))) is (told newest.0 newest.1)
 
-    pub large_told : (s : StoreState) (r : Result (Vec ℕ) ReplyFault) → s ≡ store_behind key es → Replies r (answer_of s q) → (size : ℕ) → r ≡ Err (reply.TooLarge size)
-        → IsTooLarge key journal q size
-    large_told s r e t size is = too_large s size e (subst (λ (x : Result (Vec ℕ) ReplyFault). Replies x (answer_of s q)) is t)
+    -- The reply by a version.
+
+    module _ (v : ℕ) where
+      by_version : IsKeptIn es v → (r : Reply) × (reply_of q (take (v + 1) es) ≡ Some r)
+      by_version kept = has_reply q es v (omega (arith, entries_some, kept.1))
+
+      pub reply_told_at : (result : Result (Vec ℕ) ReplyFault) → RepliesAt v q es result → IfOk result (λ bytes. IsReplyAt key journal v q bytes.items)
+      reply_told_at (Ok bytes) told =
+          let r = by_version told.0 in
+          let w = limit_kept (reply_bytes r.0) bytes.items (told.1 r.0 r.1) in
+          ((es, r.0, loadable, told.0, r.1, w.0), w.1)
+      reply_told_at (Err why) told = tt
+
+      pub large_told_at : (result : Result (Vec ℕ) ReplyFault) → RepliesAt v q es result → (size : ℕ) → result ≡ Err (reply.TooLarge size) → IsTooLargeAt key journal v q size
+      large_told_at result told size is =
+          let large : RepliesAt v q es (Err (reply.TooLarge size)) = subst (RepliesAt v q es) is told in
+          let r = by_version large.0 in
+          let w = limit_passed (reply_bytes r.0) size (large.1 r.0 r.1) in
+          (reply_bytes r.0, (es, r.0, loadable, large.0, r.1, refl), w.0, w.1)
+
+      pub kept_told_at : (result : Result (Vec ℕ) ReplyFault) → RepliesAt v q es result → (wanted oldest newest : ℕ) → result ≡ Err (reply.NoVersion wanted oldest newest)
+          → (wanted ≡ v) × IsNoVersion key journal v oldest newest
+      kept_told_at result told wanted oldest newest is =
+          let outside : RepliesAt v q es (Err (reply.NoVersion wanted oldest newest)) = subst (RepliesAt v q es) is told in
+          (outside.0, (es, loadable, outside.1, outside.2, outside.3))

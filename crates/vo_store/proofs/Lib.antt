@@ -4,7 +4,7 @@ mod InstallLaws
 mod KeptLaws
 mod HonestLaws
 mod TableLaws
-mod LoadLaws
+pub mod LoadLaws
 mod CallLaws
 mod ReplyLaws
 mod JournalReplies

@@ -5,7 +5,7 @@ use Rattle.std.specs.Prelude.{◌==◌, is_none, option_map, slice_get, IsOk}
 use Rattle.std.specs.Result.{result_unwrap_or}
 use Rattle.std.specs.List.{AllByRecursion}
 use Rattle.std.proofs.lemmas.Bool.Decides.{nat_tests}
-use Rattle.std.proofs.lemmas.List.{length-append, take_at}
+use Rattle.std.proofs.lemmas.List.{length-append, map-append, take_at}
 use Rattle.vo_spec.specs.declared.tables.Command.{Command}
 use Rattle.vo_spec.specs.declared.tables.CommandFault.{CommandFault}
 use Rattle.vo_spec.specs.declared.records.Record.{Record}
@@ -27,12 +27,12 @@ use Rattle.vo_store.specs.declared.fault.StoreFault.TheVariants as fault
 use Rattle.vo_store.specs.declared.kept_version.KeptVersion.{KeptVersion}
 use Rattle.vo_store.specs.declared.signed_record.SignedRecord.{SignedRecord}
 use Rattle.vo_store.specs.StoreState.{StoreState, earlier_behind, latest, new_store, with_installed, with_pending}
-use Rattle.vo_store.specs.HonestStores.{IsHonestStore}
+use Rattle.vo_store.specs.HonestStores.{IsHonestAfter, IsHonestStore}
 use Rattle.vo_store.specs.Calls.{install_of, next_version, proposal_of, with_proofs}
 use Rattle.vo_store.specs.Loading.{kept_behind, kept_each, last_signed, load_entries, pending_behind, refused_at, signed_of, store_behind, taken_as, taken_from, taken_later}
 use Rattle.vo_store.proofs.InstallLaws.{install_good, installs}
 use Rattle.vo_store.proofs.KeptLaws.{latest_more}
-use Rattle.vo_store.proofs.HonestLaws.{installed_honest, new_honest, one_more}
+use Rattle.vo_store.proofs.HonestLaws.{at_first, new_honest, one_more}
 
 -- The last entry.
 
@@ -311,12 +311,15 @@ module _ (key : List ℕ) where
 
   -- A store behind entries keeps what every store does.
 
+  abbrev IsHonestBehind : List Entry → Type 0
+  IsHonestBehind es = IsHonestAfter (batches_of (drop 1 es)) (store_behind key es)
+
   honest_next : (front : List Entry) (e : Entry) → AllByRecursion FitsEntry front → FitsEntry e → AreLoadable key front → AreLoadable key (front ++ e ∷ [])
-      → IsHonestStore (store_behind key front) → IsHonestStore (store_behind key (front ++ e ∷ []))
+      → IsHonestBehind front → IsHonestBehind (front ++ e ∷ [])
   unfolding store_behind honest_trees
   honest_next [] e fit fits loadable more h =
       let t = (taken_first key e).0 more in
-      installed_honest (new_store key) ([], new_honest key) (signed_of e) [] t.1 refl t.0
+      at_first (new_store key) [] (new_honest key) (signed_of e) [] t.1 refl refl t.0
   honest_next (f ∷ front) e fit fits loadable more h = step (taken_later s e) refl (takes_later f front e fit fits loadable)
     where
       es : List Entry
@@ -332,32 +335,34 @@ module _ (key : List ℕ) where
       ok_left (Ok after) d is = refl
       ok_left (Err why) d is = absurd (cc)
 
-      step : (r : Result StoreState StoreFault) → taken_later s e ≡ r → TakesNext es e r → IsHonestStore (store_behind key (es ++ e ∷ []))
+      step : (r : Result StoreState StoreFault) → taken_later s e ≡ r → TakesNext es e r → IsHonestBehind (es ++ e ∷ [])
       step (Err why) is t = absurd (t more)
       step (Ok next) is t =
           let only = later_only s (signed_of last.0) (last_signed_is f front) e next is in
           let after : List Stored = after_work s.tables e.batch.commands in
-          let honest : IsHonestStore (with_installed (signed_of e) after s) = (
-            h.0 ++ e.batch.commands ∷ [],
-            one_more s h.0 h.1 (signed_of e) after only.0.recorded.signed (signed_of last.0) e.batch.commands (last_signed_is f front) fits.batch
-                (ok_left (work_all e.batch.commands s.tables) s.tables only.0.accepted) only.0.recorded.record_is,
-          ) in
-          subst IsHonestStore (sym only.1 ∙ t.1) honest
+          let honest : IsHonestAfter (batches_of front ++ e.batch.commands ∷ []) (with_installed (signed_of e) after s) =
+          one_more s (batches_of front) h (signed_of e) after only.0.recorded.signed (signed_of last.0) e.batch.commands (last_signed_is f front) fits.batch
+              (ok_left (work_all e.batch.commands s.tables) s.tables only.0.accepted) only.0.recorded.record_is in
+          subst (λ (bs : List (List Command)). IsHonestAfter bs (store_behind key (es ++ e ∷ []))) (sym (map-append (λ (x : Entry). x.batch.commands) front (e ∷ [])))
+          (subst (IsHonestAfter (batches_of front ++ e.batch.commands ∷ [])) (sym only.1 ∙ t.1) honest)
 
   front_taken : (front rest : List Entry) → AreLoadable key (front ++ rest) → AreLoadable key front
   front_taken front rest all = subst (AreLoadable key) (take_at front rest (length front) refl) (taken_front key (length front) (front ++ rest) all)
 
-  honest_on : (front rest : List Entry) → AllByRecursion FitsEntry front → AllByRecursion FitsEntry rest → AreLoadable key (front ++ rest)
-      → IsHonestStore (store_behind key front) → IsHonestStore (store_behind key (front ++ rest))
-  honest_on front [] fit fits loadable h = subst (λ es. IsHonestStore (store_behind key es)) (sym (append-nil front)) h
+  honest_on : (front rest : List Entry) → AllByRecursion FitsEntry front → AllByRecursion FitsEntry rest → AreLoadable key (front ++ rest) → IsHonestBehind front
+      → IsHonestBehind (front ++ rest)
+  honest_on front [] fit fits loadable h = subst IsHonestBehind (sym (append-nil front)) h
   honest_on front (e ∷ rest) fit fits loadable h =
       let on : AreLoadable key ((front ++ e ∷ []) ++ rest) = subst (AreLoadable key) (sym (append_assoc front (e ∷ []) rest)) loadable in
-      subst (λ es. IsHonestStore (store_behind key es)) (append_assoc front (e ∷ []) rest)
+      subst IsHonestBehind (append_assoc front (e ∷ []) rest)
       (honest_on (front ++ e ∷ []) rest (each_both FitsEntry front (e ∷ []) fit (fits.0, tt)) fits.1 on
       (honest_next front e fit fits.0 (front_taken front (e ∷ rest) loadable) (front_taken (front ++ e ∷ []) rest on) h))
 
+  pub behind_after : (es : List Entry) → AllByRecursion FitsEntry es → AreLoadable key es → IsHonestBehind es
+  behind_after es fit loadable = honest_on [] es tt fit loadable (subst (IsHonestAfter []) (sym behind_none) (new_honest key))
+
   pub behind_honest : (es : List Entry) → AllByRecursion FitsEntry es → AreLoadable key es → IsHonestStore (store_behind key es)
-  behind_honest es fit loadable = honest_on [] es tt fit loadable (subst IsHonestStore (sym behind_none) ([], new_honest key))
+  behind_honest es fit loadable = (batches_of (drop 1 es), behind_after es fit loadable)
 
   -- One entry more.
 

@@ -50,7 +50,7 @@ use Rattle.vo_store.proofs.SignatureLaws.{signed_short}
 use Rattle.vo_store.proofs.InstallLaws.{install_good, installs}
 use Rattle.vo_store.proofs.KeptLaws.{first_batches_fit, is_installed, kept_is, newest_at, version_is}
 use Rattle.vo_store.proofs.HonestLaws.{record_fits_bytes, at_first, one_more, proposed_honest}
-use Rattle.vo_store.proofs.CallLaws.{answer_some, answers_at, version_kept}
+use Rattle.vo_store.proofs.CallLaws.{answer_some, answered_at, limit_kept, version_kept}
 
 pub stand : (batches : List (List Command)) (s : StoreState) → IsHonestAfter batches s → RepresentTables s.tables (tables_after batches)
 stand batches s h = subst (λ ss. RepresentTables ss (tables_after batches)) (sym h.tables) (stands batches h.fit).0
@@ -247,18 +247,9 @@ module _ (key : List ℕ) (batches : List (List Command)) (kept : KeptVersion) (
       ap (λ ss. answer_to key least q (honest_reply q kept.signed.rec kept.signed.signature ss)) is.tables
       ∙ honest_answer batches key (length batches) least q kept.signed.rec kept.signed.signature fit is.signed.record_is is.signed.signed recent numbers
 
-  -- the reply's bytes, and that they are not over the limit
-  within : reply_by_kept q kept ≡ Ok bytes → (bytes ≡ reply_bytes r) × (length bytes ≤ max_reply)
-  within e = step (nat_le (length (reply_bytes r)) max_reply) refl e
-    where
-      step : (b : Bool) → nat_le (length (reply_bytes r)) max_reply ≡ b → cond b (Ok (reply_bytes r)) (Err (fault.TooLarge (length (reply_bytes r)))) ≡ Ok bytes
-          → (bytes ≡ reply_bytes r) × (length bytes ≤ max_reply)
-      step true f g = let same : reply_bytes r ≡ bytes = cc in (sym same, subst (λ (t : List ℕ). length t ≤ max_reply) same (leb-true (length (reply_bytes r)) max_reply f))
-      step false f g = absurd (cc)
-
   kept_checked : reply_by_kept q kept ≡ Ok bytes → CheckOf key least q bytes (Ok plain_answer)
   unfolding CheckOf
-  kept_checked e = let w = within e in inr (inr (w.1, r, subst (λ t. IsReply t r) (sym w.0) reply_read, sym told))
+  kept_checked e = let w = limit_kept (reply_bytes r) bytes e in inr (inr (w.1, r, subst (λ t. IsReply t r) (sym w.0) reply_read, sym told))
 
 module _ (batches : List (List Command)) (s : StoreState) (h : IsHonestAfter batches s) where
   pub checked : (installed : SignedRecord) (least : ℕ) (q : Query) (bytes : List ℕ) → s.installed ≡ Some installed → FitsQuery q → least ≤ installed.rec.version → answer_of s q ≡ Ok bytes
@@ -272,7 +263,7 @@ module _ (batches : List (List Command)) (s : StoreState) (h : IsHonestAfter bat
       → CheckOf s.key least q bytes (Ok (record { version = version; outcome = result q (tables_after (take version batches)) }))
   unfolding honest_record
   checked_at version least q bytes numbers recent e =
-      let a = answers_at s q version bytes e in
+      let a = answered_at s q version bytes e in
       let kept : KeptVersion = kept_at s.earlier a.installed s.tables (version - oldest_of a.installed.rec.version) in
       let is : IsKeptOf s.key (take version batches) kept = kept_is batches s h a.installed a.there version a.above a.below in
       let few : version ≤ length batches = omega (arith, version_is batches s h a.installed a.there, a.below) in

@@ -44,6 +44,7 @@ refused view to (fault.TooLarge size) due result is g memory h = same_answer res
 refused view to fault.NothingProposed due result is g memory h = same_answer result _ _ (ap (λ (a : KindAndBody). Some a) (sym is ∙ sym (ap to g))) h
 refused view to (fault.WrongRecord want got) due result is g memory h = same_answer result _ _ (ap (λ (a : KindAndBody). Some a) (sym is ∙ sym (ap to g))) h
 refused view to fault.BadSignature due result is g memory h = same_answer result _ _ (ap (λ (a : KindAndBody). Some a) (sym is ∙ sym (ap to g))) h
+refused view to (fault.NoVersion version oldest newest) due result is g memory h = same_answer result _ _ (ap (λ (a : KindAndBody). Some a) (sym is ∙ sym (ap to g))) h
 refused view to (fault.Command index because proofs) due result is g memory h = same_answer result _ _ (ap (λ (a : KindAndBody). Some a) (sym is ∙ sym (ap to g))) h
 
 -- the store stays where it refused
@@ -57,6 +58,7 @@ stayed view after (fault.TooLarge size) due result old new g memory same = on_ok
 stayed view after fault.NothingProposed due result old new g memory same = on_ok result (same ∙ sym (ap (store_after after old) g))
 stayed view after (fault.WrongRecord want got) due result old new g memory same = on_ok result (same ∙ sym (ap (store_after after old) g))
 stayed view after fault.BadSignature due result old new g memory same = on_ok result (same ∙ sym (ap (store_after after old) g))
+stayed view after (fault.NoVersion version oldest newest) due result old new g memory same = on_ok result (same ∙ sym (ap (store_after after old) g))
 stayed view after (fault.Command index because proofs) due result old new g memory same = on_ok result (same ∙ sym (ap (store_after after old) g))
 
 -- what is so of the store after an answer
@@ -94,6 +96,7 @@ refuses_all (fault.TooLarge size) other = refl
 refuses_all fault.NothingProposed other = refl
 refuses_all (fault.WrongRecord want got) other = refl
 refuses_all fault.BadSignature other = refl
+refuses_all (fault.NoVersion version oldest newest) other = refl
 refuses_all fault.Memory other = refl
 refuses_all (fault.Command index because proofs) other = absurd (other index because proofs refl)
 

@@ -44,6 +44,7 @@ code_of (fault.TooLarge size) = 3
 code_of fault.NothingProposed = 4
 code_of (fault.WrongRecord want got) = 5
 code_of fault.BadSignature = 6
+code_of (fault.NoVersion version oldest newest) = 7
 code_of (fault.Command index why proofs) = 0
 code_of fault.Memory = 0
 

@@ -45,6 +45,7 @@ fn told_code(fault: StoreFault) -> Option<u8>
         StoreFault::NothingProposed => Some(4),
         StoreFault::WrongRecord { .. } => Some(5),
         StoreFault::BadSignature => Some(6),
+        StoreFault::NoVersion { .. } => Some(7),
         StoreFault::Command { .. } => Some(0),
         StoreFault::Memory => None,
     }

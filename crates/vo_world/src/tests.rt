@@ -10,7 +10,7 @@ use sql_text::parse_query;
 use std::alloc::{AllocError, Global};
 use std::test::Fail;
 use vo_spec::{Batch, List, QueryText};
-use vo_store::reply_by;
+use vo_store::{ReplyFault, reply_at, reply_by};
 
 // CREATE TABLE t (id BIGINT, name TEXT, PRIMARY KEY (id))
 const CREATE: &[u8] = b"\x00\x01\x01\x01t\x02\x02id\x01\x04name\x02\x02id";
@@ -125,6 +125,46 @@ fn begin_and_commit(alloc: Global, key: &SecretKey) -> Result<Served, AllocError
     served
 }
 
+/// Whether a version of what is served has this reply.
+fn replies_at(
+    alloc: Global,
+    key: &SecretKey,
+    served: &Served,
+    version: u64,
+    due: &[u8],
+) -> Result<bool, AllocError> {
+    let query = query(alloc)?;
+    let reply = reply_at(alloc, key.public(), &served.journal, version, &query);
+    drop(query);
+    match reply {
+        Ok(reply) => Ok(reply.as_slice() == due),
+        Err(_) => Ok(false),
+    }
+}
+
+/// Whether what is served has no version 3.
+fn has_no_third(alloc: Global, key: &SecretKey, served: &Served) -> Result<bool, AllocError> {
+    let query = query(alloc)?;
+    let reply = reply_at(alloc, key.public(), &served.journal, 3, &query);
+    drop(query);
+    let due = ReplyFault::NoVersion {
+        version: 3,
+        oldest: 0,
+        newest: 2,
+    };
+    Ok(reply.err() == Some(due))
+}
+
+/// Whether each version of what is served has the reply of a store that stopped there.
+fn versions_are_kept(alloc: Global, key: &SecretKey) -> Result<bool, AllocError> {
+    let served = begin_and_commit(alloc, key)?;
+    let older = replies_at(alloc, key, &served, 1, &served.older);
+    let newer = replies_at(alloc, key, &served, 2, &served.newer);
+    let no_third = has_no_third(alloc, key, &served);
+    drop(served);
+    Ok(older? && newer? && no_third?)
+}
+
 fn bytes_of(alloc: Global, bytes: &[u8]) -> Result<List<u8>, AllocError> {
     Ok(List::from_vec(Vec::from_slice(alloc, bytes)?))
 }
@@ -223,5 +263,14 @@ fn events_in_a_row(rt: HostRuntime) -> Result<(), Fail> {
     let key = SecretKey::make(rt.alloc(), [7; 16], [8; 32], OtsType::W4, 5)?;
     schedules_are_sound();
     assert!(rt; come_to_what_is_due(rt.alloc(), key)?);
+    Ok(())
+}
+
+#[test]
+fn earlier_versions_are_answered(rt: HostRuntime) -> Result<(), Fail> {
+    let key = SecretKey::make(rt.alloc(), [7; 16], [8; 32], OtsType::W4, 5)?;
+    let are_kept = versions_are_kept(rt.alloc(), &key);
+    drop(key);
+    assert!(rt; are_kept?);
     Ok(())
 }

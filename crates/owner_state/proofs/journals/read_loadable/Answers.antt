@@ -15,7 +15,7 @@ returns-then-not-is_whole-clause-bad c =
     λ index e.
     let same : length es ≡ index = cc in
     subst (FailsAt (AreLoadable c.args.key.now) c.args.journal.now) same
-    (fails_behind (AreLoadable c.args.key.now) c.args.journal.now es slots (subst (AreLoadable c.args.key.now) c.as_slice.ensures c.in_ok-tables.ensures.taken)
+    (fails_behind (AreLoadable c.args.key.now) c.args.journal.now es slots (subst (AreLoadable c.args.key.now) c.as_slice-2.ensures c.in_ok-tables.ensures.taken)
     (not_whole (AreLoadable c.args.key.now) c.args.journal.now es c.in_ok-slots.slots.ending c.in_ok-slots.ensures.ending (λ w. let t = c.is_whole.ensures.1 w in absurd (cc))))
 
 pub returns-clause-taken : goal.returns-clause-taken
@@ -23,7 +23,7 @@ unfolding IsLoadable
 returns-clause-taken c =
     let true_is : c.is_whole.result ≡ true = cc in
     whole (AreLoadable c.args.key.now) c.args.journal.now c.in_ok-slots.slots.entries c.in_ok-slots.slots.ending c.in_ok-slots.ensures.ending (c.is_whole.ensures.0 true_is)
-    (subst (AreLoadable c.args.key.now) c.as_slice.ensures c.in_ok-tables.ensures.taken)
+    (subst (AreLoadable c.args.key.now) c.as_slice-2.ensures c.in_ok-tables.ensures.taken)
 
 pub returns-in_err-tables-clause-bad : goal.returns-in_err-tables-clause-bad
 unfolding IsUnloadableAt
@@ -34,4 +34,4 @@ returns-in_err-tables-clause-bad c =
     λ index e.
     let same : c.in_err-tables.field-0.0 ≡ BadAt index = cc in
     fails_inside (AreLoadable c.args.key.now) c.args.journal.now es index slots
-    (subst (λ (xs : List Entry). StopsAt (AreLoadable c.args.key.now) xs index) c.as_slice.ensures (c.in_err-tables.ensures.bad index (ap Err same)))
+    (subst (λ (xs : List Entry). StopsAt (AreLoadable c.args.key.now) xs index) c.as_slice-2.ensures (c.in_err-tables.ensures.bad index (ap Err same)))

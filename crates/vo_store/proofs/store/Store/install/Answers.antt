@@ -11,15 +11,15 @@ use Rattle.vo_store.proofs.store.Store.install.Goals as goal
 
 pub returns-in-None-clause-answer : goal.returns-in-None-clause-answer
 returns-in-None-clause-answer c =
-    let s : StoreState = record { key = c.self.inside.key; installed = c.self.inside.installed; tables = c.self.inside.tables; pending = c.self.inside.pending } in
+    let s : StoreState = record { key = c.self.inside.key; earlier = c.self.inside.earlier.items; installed = c.self.inside.installed; tables = c.self.inside.tables; pending = c.self.inside.pending } in
     subst (λ (t : StoreState). install_of t c.args.rec.now c.args.signature.now ≡ Err NothingProposed) c.self.view_is (install_none s c.args.rec.now c.args.signature.now c.in-None.is)
 
 pub next_version-version-requires : goal.next_version-version-requires
-next_version-version-requires c = next_below (record { key = c.self.inside.key; installed = c.self.inside.installed; tables = c.self.inside.tables; pending = c.self.inside.pending }) c.self.invariant
+next_version-version-requires c = next_below (record { key = c.self.inside.key; earlier = c.self.inside.earlier.items; installed = c.self.inside.installed; tables = c.self.inside.tables; pending = c.self.inside.pending }) c.self.invariant
 
 pub invariant_of-self : goal.invariant_of-self
 invariant_of-self c =
-    let s : StoreState = record { key = c.self.inside.key; installed = c.self.inside.installed; tables = c.self.inside.tables; pending = c.self.inside.pending } in
+    let s : StoreState = record { key = c.self.inside.key; earlier = c.self.inside.earlier.items; installed = c.self.inside.installed; tables = c.self.inside.tables; pending = c.self.inside.pending } in
     let after : List Stored = c.in_ok-after-in-Some.after in
     let pending : s.pending ≡ Some after = c.in-Some.is ∙ ap Some (sym c.in_ok-after-in-Some.ensures) in
     install_honest s c.self.invariant c.args.rec.now c.args.signature.now after c.in-Ok.installed pending
@@ -27,7 +27,7 @@ invariant_of-self c =
 
 pub returns-in-Ok-clause-answer : goal.returns-in-Ok-clause-answer
 returns-in-Ok-clause-answer c =
-    let s : StoreState = record { key = c.self.inside.key; installed = c.self.inside.installed; tables = c.self.inside.tables; pending = c.self.inside.pending } in
+    let s : StoreState = record { key = c.self.inside.key; earlier = c.self.inside.earlier.items; installed = c.self.inside.installed; tables = c.self.inside.tables; pending = c.self.inside.pending } in
     let after : List Stored = c.in_ok-after-in-Some.after in
     let pending : s.pending ≡ Some after = c.in-Some.is ∙ ap Some (sym c.in_ok-after-in-Some.ensures) in
     subst (λ (t : StoreState). install_of t c.args.rec.now c.args.signature.now ≡ Ok (with_installed c.in-Ok.installed after s)) c.self.view_is
@@ -36,7 +36,7 @@ returns-in-Ok-clause-answer c =
 
 pub returns-in-Err-clause-answer : goal.returns-in-Err-clause-answer
 returns-in-Err-clause-answer c =
-    let s : StoreState = record { key = c.self.inside.key; installed = c.self.inside.installed; tables = c.self.inside.tables; pending = c.self.inside.pending } in
+    let s : StoreState = record { key = c.self.inside.key; earlier = c.self.inside.earlier.items; installed = c.self.inside.installed; tables = c.self.inside.tables; pending = c.self.inside.pending } in
     let after : List Stored = c.in_ok-after-in-Some.after in
     let pending : s.pending ≡ Some after = c.in-Some.is ∙ ap Some (sym c.in_ok-after-in-Some.ensures) in
     subst (λ (r : Result StoreState StoreFault). Gives (λ (x : StoreState). x) (Err c.in-Err.fault) r)
