@@ -1,31 +1,24 @@
 -- The replies by the entries of a journal.
 use Rattle.std.proofs.Common.{◌≡◌, ℕ, zero, suc, ◌+◌, ◌-◌, ◌<◌, ◌≤◌, List, [], ◌∷◌, Some, Result, Ok, Err, length, take, drop, refl, sym, ap, subst, ◌∙◌, arith}
-use Rattle.std.specs.Prelude.{◌⊎◌, IfOk, option_map, slice_get}
+use Rattle.std.specs.Prelude.{◌⊎◌, IfOk, IfSome, Option, option_map, slice_get}
 use Rattle.std.specs.Global.{Vec}
 use Rattle.std.specs.List.{AllByRecursion}
-use Rattle.std.proofs.lemmas.List.{length-drop, length-map, length-take-le, take_all}
+use Rattle.std.proofs.lemmas.List.{length-take-le, take_all}
 use Rattle.std.proofs.lemmas.Option.{slice_get_within}
-use Rattle.vo_spec.specs.declared.tables.Command.{Command}
 use Rattle.vo_spec.specs.declared.records.Entry.{Entry}
 use Rattle.vo_spec.specs.Conditions.{Query}
 use Rattle.vo_spec.specs.Journals.{FitsEntry, batches_of, last_version}
-use Rattle.vo_spec.specs.Owners.{AreLoadable, IsLoadable}
+use Rattle.vo_spec.specs.Owners.{IsLoadable}
 use Rattle.vo_spec.specs.Replies.{Reply, max_reply, reply_bytes}
-use Rattle.vo_spec.specs.Honest.{Stored, honest_record, honest_reply, honest_trees, reply_of}
-use Rattle.vo_laws.proofs.EntryLaws.{entry_held, fit_at}
+use Rattle.vo_spec.specs.Honest.{Stored, honest_reply, honest_trees, reply_of}
 use Rattle.owner_state.specs.Departing.{trees_at}
 use Rattle.owner_state.proofs.DepartLaws.{first_trees}
 use Rattle.vo_store.specs.declared.fault.StoreFault.{StoreFault}
 use Rattle.vo_store.specs.declared.fault.ReplyFault.{ReplyFault}
 use Rattle.vo_store.specs.declared.fault.ReplyFault.TheVariants as reply
-use Rattle.vo_store.specs.StoreState.{oldest_of}
-use Rattle.vo_store.specs.HonestStores.{IsAnswering, IsRecordOf}
 use Rattle.vo_store.specs.Calls.{within_limit}
-use Rattle.vo_store.specs.Loading.{signed_of}
-use Rattle.vo_store.specs.Replying.{AreTaken, IsKeptIn, IsNoVersion, IsReplyAt, IsReplyBy, IsTooLarge, IsTooLargeAt, Replies, RepliesAt}
+use Rattle.vo_store.specs.Replying.{IsKeptIn, IsReplyAt, IsReplyBy, IsTooLarge, IsTooLargeAt, Replies, RepliesAt}
 use Rattle.vo_store.proofs.CallLaws.{limit_kept, limit_passed}
-use Rattle.vo_store.proofs.HonestLaws.{kept_answers}
-use Rattle.vo_store.proofs.LoadLaws.{last_there}
 use Rattle.vo_store.proofs.ReplyLaws.{journal_fits}
 
 -- The reply by an entry.
@@ -43,19 +36,9 @@ reply_is q es v e found =
     let by : Entry → Reply = λ (x : Entry). honest_reply q x.rec x.signature (honest_trees (batches_of (drop 1 first))) in
     ap (λ (i : ℕ). option_map by (slice_get first i)) last ∙ ap (option_map by) (slice_take es v e found) ∙ ap (λ (ss : List Stored). Some (honest_reply q e.rec e.signature ss)) (first_trees v es)
 
-entry_record : (key : List ℕ) (es : List Entry) (v : ℕ) (e : Entry) → AreLoadable key es → slice_get es v ≡ Some e → IsRecordOf key (batches_of (take v (drop 1 es))) (signed_of e)
-entry_record key es v e loadable found =
-    let held = entry_held key es v e loadable found in
-    let within : v < length es = slice_get_within es v e found in
-    let rest : length (drop 1 es) ≡ length es - 1 = length-drop 1 es in
-    let many : v ≤ length (drop 1 es) = omega (arith, within, rest) in
-    let long : length (batches_of (take v (drop 1 es))) ≡ v = length-map (take v (drop 1 es)) (λ (x : Entry). x.batch.commands) ∙ length-take-le v (drop 1 es) many in
-    record { record_is = held.record_is ∙ ap (λ (n : ℕ). honest_record key n (trees_at v es)) (sym long); signed = held.signed }
-
-pub entry_answers : (es : List Entry) (v : ℕ) (e : Entry) → AllByRecursion FitsEntry es → AreTaken es → slice_get es v ≡ Some e → IsAnswering (record { signed = signed_of e; tables = trees_at v es })
-entry_answers es v e fit taken found =
-    kept_answers taken.0 (batches_of (take v (drop 1 es))) (record { signed = signed_of e; tables = trees_at v es }) (fit_at v es fit)
-    (record { signed = entry_record taken.0 es v e taken.1 found; tables = refl })
+pub found_trees : (es : List Entry) (v : ℕ) (tables : Option (List Stored)) (found : List Stored) → IfSome tables (λ ss. ss ≡ trees_at v es)
+    → tables ≡ Some found → found ≡ trees_at v es
+found_trees es v tables found is some = subst (λ (o : Option (List Stored)). IfSome o (λ ss. ss ≡ trees_at v es)) some is
 
 -- a call that gives the reply of an entry gives the one of its version
 pub by_entry : (q : Query) (es : List Entry) (v : ℕ) (e : Entry) (result : Result (Vec ℕ) ReplyFault) → slice_get es v ≡ Some e
@@ -95,10 +78,6 @@ module _ (key journal : List ℕ) (es : List Entry) (loadable : IsLoadable key j
   unfolding IsLoadable
   entries_fit = journal_fits journal es loadable.0
 
-  pub entries_taken : AreTaken es
-  unfolding IsLoadable
-  entries_taken = (key, loadable.1)
-
   pub entries_some : 0 < length es
   unfolding IsLoadable
   entries_some = loadable.2
@@ -125,6 +104,9 @@ module _ (key journal : List ℕ) (es : List Entry) (loadable : IsLoadable key j
         let w = limit_passed (reply_bytes newest.0) size (subst (λ (x : Result (Vec ℕ) ReplyFault). Replies x (within_limit (reply_bytes newest.0))) is (told newest.0 newest.1)) in
         (reply_bytes newest.0, (es, newest.0, loadable, newest.1, refl), w.0, w.1)
 
+    pub never_bad : (result : Result (Vec ℕ) ReplyFault) → Tells result → (index : ℕ) → result ≡ Err (reply.BadJournal index) → ⊥
+    never_bad result told index is = subst (λ (x : Result (Vec ℕ) ReplyFault). Replies x (within_limit (reply_bytes newest.0))) is (told newest.0 newest.1)
+
     pub always_kept : (result : Result (Vec ℕ) ReplyFault) → Tells result → (version oldest newest : ℕ) → result ≡ Err (reply.NoVersion version oldest newest) → ⊥
     always_kept result told version oldest newest_is is =
         subst (λ (x : Result (Vec ℕ) ReplyFault). Replies x (within_limit (reply_bytes newest.0))) is (told newest.0 newest.1)
@@ -149,8 +131,8 @@ module _ (key journal : List ℕ) (es : List Entry) (loadable : IsLoadable key j
           let w = limit_passed (reply_bytes r.0) size (large.1 r.0 r.1) in
           (reply_bytes r.0, (es, r.0, loadable, large.0, r.1, refl), w.0, w.1)
 
-      pub kept_told_at : (result : Result (Vec ℕ) ReplyFault) → RepliesAt v q es result → (wanted oldest newest : ℕ) → result ≡ Err (reply.NoVersion wanted oldest newest)
-          → (wanted ≡ v) × IsNoVersion key journal v oldest newest
-      kept_told_at result told wanted oldest newest is =
-          let outside : RepliesAt v q es (Err (reply.NoVersion wanted oldest newest)) = subst (RepliesAt v q es) is told in
-          (outside.0, (es, loadable, outside.1, outside.2, outside.3))
+      pub never_bad_at : (result : Result (Vec ℕ) ReplyFault) → RepliesAt v q es result → (index : ℕ) → result ≡ Err (reply.BadJournal index) → ⊥
+      never_bad_at result told index is =
+          let bad : RepliesAt v q es (Err (reply.BadJournal index)) = subst (RepliesAt v q es) is told in
+          let r = by_version bad.0 in
+          bad.1 r.0 r.1

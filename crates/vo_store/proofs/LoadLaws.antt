@@ -34,6 +34,14 @@ use Rattle.vo_store.proofs.InstallLaws.{install_good, installs}
 use Rattle.vo_store.proofs.KeptLaws.{latest_more}
 use Rattle.vo_store.proofs.HonestLaws.{at_first, new_honest, one_more}
 
+-- An entry's record, signed.
+
+abbrev signed_with : Record → List ℕ → SignedRecord
+signed_with rec signature = record { rec = rec; signature = signature }
+
+pub signed_parts : (signed : SignedRecord) (rec : Record) (signature : List ℕ) (e : Entry) → signed ≡ signed_with rec signature → rec ≡ e.rec → signature ≡ e.signature → signed ≡ signed_of e
+signed_parts signed rec signature e is rec_is signature_is = is ∙ ap (λ (x : Record). signed_with x signature) rec_is ∙ ap (signed_with e.rec) signature_is
+
 -- The last entry.
 
 slice_last : (front : List Entry) (e : Entry) → slice_get (front ++ e ∷ []) (length front) ≡ Some e
@@ -135,7 +143,7 @@ module _ (f : Entry) (front : List Entry) where
   abbrev before_last : List Entry
   before_last = take (length es_now - 1) es_now
 
-  last_now : Entry
+  abbrev last_now : Entry
   last_now = (last_there f front).0
 
   parted : es_now ≡ before_last ++ last_now ∷ []
@@ -331,7 +339,7 @@ module _ (key : List ℕ) where
       last : (x : Entry) × (slice_get es (length front) ≡ Some x)
       last = last_there f front
 
-      ok_left : (r : Result (List Stored) (ℕ × CommandFault)) (d : List Stored) → IsOk r → r ≡ Ok (result_unwrap_or r d)
+      ok_left : (r : Result (List Stored) CommandFault) (d : List Stored) → IsOk r → r ≡ Ok (result_unwrap_or r d)
       ok_left (Ok after) d is = refl
       ok_left (Err why) d is = absurd (cc)
 
@@ -342,7 +350,7 @@ module _ (key : List ℕ) where
           let after : List Stored = after_work s.tables e.batch.commands in
           let honest : IsHonestAfter (batches_of front ++ e.batch.commands ∷ []) (with_installed (signed_of e) after s) =
           one_more s (batches_of front) h (signed_of e) after only.0.recorded.signed (signed_of last.0) e.batch.commands (last_signed_is f front) fits.batch
-              (ok_left (work_all e.batch.commands s.tables) s.tables only.0.accepted) only.0.recorded.record_is in
+          (ok_left (work_all e.batch.commands s.tables) s.tables only.0.accepted) only.0.recorded.record_is in
           subst (λ (bs : List (List Command)). IsHonestAfter bs (store_behind key (es ++ e ∷ []))) (sym (map-append (λ (x : Entry). x.batch.commands) front (e ∷ [])))
           (subst (IsHonestAfter (batches_of front ++ e.batch.commands ∷ [])) (sym only.1 ∙ t.1) honest)
 
@@ -365,6 +373,14 @@ module _ (key : List ℕ) where
   behind_honest es fit loadable = (batches_of (drop 1 es), behind_after es fit loadable)
 
   -- One entry more.
+
+  pub behind_key : (es : List Entry) → (store_behind key es).key ≡ key
+  unfolding store_behind
+  behind_key es = refl
+
+  pub behind_tables : (es : List Entry) → (store_behind key es).tables ≡ honest_trees (batches_of (drop 1 es))
+  unfolding store_behind
+  behind_tables es = refl
 
   pub entry_behind : (front : List Entry) (e : Entry) (after : List Stored) → after ≡ honest_trees (batches_of (drop 1 (front ++ e ∷ [])))
       → with_installed (signed_of e) after (store_behind key front) ≡ store_behind key (front ++ e ∷ [])

@@ -6,7 +6,7 @@ use Rattle.vo_spec.specs.Conditions.{Query}
 use Rattle.vo_spec.specs.Journals.{last_version}
 use Rattle.vo_spec.specs.Replies.{Reply, reply_bytes, max_reply}
 use Rattle.vo_spec.specs.Honest.{reply_of}
-use Rattle.vo_spec.specs.Owners.{AreLoadable, IsLoadable}
+use Rattle.vo_spec.specs.Owners.{IsLoadable}
 use Rattle.vo_store.specs.StoreState.{oldest_of}
 use Rattle.vo_store.specs.Calls.{within_limit}
 use Rattle.vo_store.specs.declared.fault.StoreFault.{StoreFault}
@@ -51,10 +51,6 @@ abbrev pub IsNoVersion : List ℕ → List ℕ → ℕ → ℕ → ℕ → Type 
 IsNoVersion key journal version oldest newest = (es : List Entry) × IsLoadable key journal es
     × (newest ≡ last_version es) × (oldest ≡ oldest_of newest)
     × ((version < oldest) ⊎ (newest < version))
-
--- a store of some key takes the entries
-abbrev pub AreTaken : List Entry → Type 0
-AreTaken es = (key : List ℕ) × AreLoadable key es
 
 -- what a call by a journal gave is the answer of a store, unless memory ran out
 abbrev pub Replies : Result (Vec ℕ) ReplyFault → Result (List ℕ) StoreFault → Type 0

@@ -1,5 +1,5 @@
 //! A record with its signature.
-ghost use Rattle.std.specs.Prelude.{IfOk};
+ghost use Rattle.std.specs.Prelude.{◌≡◌, IfOk};
 
 use std::alloc::{AllocError, Global};
 use vo_spec::{Record, SharedList};

@@ -6,6 +6,6 @@ use Rattle.vo_store.proofs.store.Store.load.Given as goal
 -- the entries so far are taken, and the store stands behind them
 abbrev pub invariant-loop-index : goal.invariant-loop-index
 invariant-loop-index l = record {
-  taken : AreLoadable l.key (take l.index l.entries);
-  behind : l.store ≡ store_behind l.key (take l.index l.entries);
+  taken : AreLoadable l.fn.key (take l.index l.entries);
+  behind : l.store ≡ store_behind l.fn.key (take l.index l.entries);
 }
