@@ -81,6 +81,7 @@ body_kept kind.Query body other = refl
 body_kept kind.Status body other = refl
 body_kept kind.Propose body other = refl
 body_kept kind.Install body other = refl
+body_kept kind.QueryAt body other = refl
 body_kept kind.Reply body other = refl
 body_kept kind.Standing body other = refl
 body_kept kind.Proofs body other = refl

@@ -21,6 +21,7 @@ code_of kind.Query = 1
 code_of kind.Status = 2
 code_of kind.Propose = 3
 code_of kind.Install = 4
+code_of kind.QueryAt = 5
 code_of kind.Reply = 129
 code_of kind.Standing = 130
 code_of kind.Proofs = 131
@@ -34,6 +35,7 @@ kind_of code =
     else if code == 2 then Some kind.Status
     else if code == 3 then Some kind.Propose
     else if code == 4 then Some kind.Install
+    else if code == 5 then Some kind.QueryAt
     else if code == 129 then Some kind.Reply
     else if code == 130 then Some kind.Standing
     else if code == 131 then Some kind.Proofs
@@ -48,6 +50,7 @@ is_length kind.Query n = nat_le 1 n && nat_le n max_query
 is_length kind.Status n = n == 0
 is_length kind.Propose n = nat_le 2 n && nat_le n max_batch_bytes
 is_length kind.Install n = nat_le 64 n && nat_le n (64 + max_signature)
+is_length kind.QueryAt n = nat_le 9 n && nat_le n (8 + max_query)
 is_length kind.Reply n = nat_le n max_reply
 is_length kind.Standing n = n == 1 || n == 61
 is_length kind.Proofs n = nat_le n max_proofs
@@ -60,6 +63,7 @@ may_come awaits.Request kind.Query = true
 may_come awaits.Request kind.Status = true
 may_come awaits.Request kind.Propose = true
 may_come awaits.Request kind.Install = true
+may_come awaits.Request kind.QueryAt = true
 may_come awaits.Reply kind.Reply = true
 may_come awaits.Reply kind.Refusal = true
 may_come awaits.Standing kind.Standing = true

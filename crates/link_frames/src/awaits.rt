@@ -29,7 +29,11 @@ impl Awaits {
         match self {
             Awaits::Request => matches!(
                 kind,
-                FrameKind::Query | FrameKind::Status | FrameKind::Propose | FrameKind::Install
+                FrameKind::Query
+                    | FrameKind::Status
+                    | FrameKind::Propose
+                    | FrameKind::Install
+                    | FrameKind::QueryAt
             ),
             Awaits::Reply => matches!(kind, FrameKind::Reply | FrameKind::Refusal),
             Awaits::Standing => matches!(kind, FrameKind::Standing),

@@ -4,13 +4,15 @@ ghost use Rattle.std.specs.Prelude.{◌≡◌};
 use crate::limits::MAX_QUERY;
 use vo_spec::{MAX_BATCH_BYTES, MAX_PROOFS, MAX_REPLY, MAX_SIGNATURE};
 
-/// A client asks a query, an owner the other three; a store answers them in this order, or refuses.
+/// A client asks a query, of the newest version or of an older one, and an owner the other three; a
+/// store answers by the kinds from `Reply` on.
 #[derive(Clone, Copy, Debug, PartialEq, Eq)]
 pub enum FrameKind {
     Query,
     Status,
     Propose,
     Install,
+    QueryAt,
     Reply,
     Standing,
     Proofs,
@@ -30,6 +32,7 @@ impl FrameKind {
             FrameKind::Status => 0x02,
             FrameKind::Propose => 0x03,
             FrameKind::Install => 0x04,
+            FrameKind::QueryAt => 0x05,
             FrameKind::Reply => 0x81,
             FrameKind::Standing => 0x82,
             FrameKind::Proofs => 0x83,
@@ -47,6 +50,7 @@ impl FrameKind {
             0x02 => Some(FrameKind::Status),
             0x03 => Some(FrameKind::Propose),
             0x04 => Some(FrameKind::Install),
+            0x05 => Some(FrameKind::QueryAt),
             0x81 => Some(FrameKind::Reply),
             0x82 => Some(FrameKind::Standing),
             0x83 => Some(FrameKind::Proofs),
@@ -65,6 +69,7 @@ impl FrameKind {
             FrameKind::Status => length == 0,
             FrameKind::Propose => 2 <= length && length <= MAX_BATCH_BYTES,
             FrameKind::Install => 64 <= length && length <= 64 + MAX_SIGNATURE,
+            FrameKind::QueryAt => 9 <= length && length <= 8 + MAX_QUERY,
             FrameKind::Reply => length <= MAX_REPLY,
             FrameKind::Standing => length == 1 || length == 61,
             FrameKind::Proofs => length <= MAX_PROOFS,

@@ -28,6 +28,7 @@ body_goes kind.Query body bytes e rest = let same : body ≡ bytes = cc in ap re
 body_goes kind.Status body bytes e rest = let same : body ≡ bytes = cc in ap rest same
 body_goes kind.Propose body bytes e rest = let same : body ≡ bytes = cc in ap rest same
 body_goes kind.Install body bytes e rest = let same : body ≡ bytes = cc in ap rest same
+body_goes kind.QueryAt body bytes e rest = let same : body ≡ bytes = cc in ap rest same
 body_goes kind.Reply body bytes e rest = let same : body ≡ bytes = cc in ap rest same
 body_goes kind.Standing body bytes e rest = let same : body ≡ bytes = cc in ap rest same
 body_goes kind.Proofs body bytes e rest = let same : body ≡ bytes = cc in ap rest same
@@ -41,6 +42,7 @@ body_stops kind.Query body why e = absurd (cc)
 body_stops kind.Status body why e = absurd (cc)
 body_stops kind.Propose body why e = absurd (cc)
 body_stops kind.Install body why e = absurd (cc)
+body_stops kind.QueryAt body why e = absurd (cc)
 body_stops kind.Reply body why e = absurd (cc)
 body_stops kind.Standing body why e = absurd (cc)
 body_stops kind.Proofs body why e = absurd (cc)
