@@ -11,7 +11,7 @@ use Rattle.row_bytes.specs.Reading.{u32_at, u64_at, byte_at}
 use Rattle.row_bytes.specs.Fields.{block_at}
 use Rattle.version_record.specs.Reading.{record_at}
 use Rattle.version_record.proofs.RecordLaws.{bytes_read, records_read, u64s_read}
-use Rattle.store_requests.specs.Bodies.{install_bytes, install_in, standing_bytes, standing_at, standing_in, version_in}
+use Rattle.store_requests.specs.Bodies.{install_bytes, install_in, standing_bytes, standing_at, standing_in, version_in, query_at_bytes, query_at_in}
 
 -- Blocks.
 
@@ -58,3 +58,8 @@ version_again version fits =
     let at_version : u64_at (u64_bytes version) ≡ Some (version, []) =
     subst (λ (bytes : List ℕ). u64_at bytes ≡ Some (version, [])) (append-nil (u64_bytes version)) (u64s_read.again version [] fits) in
     rw at_version refl
+
+pub query_at_again : (version : ℕ) (text : List ℕ) → version < 2 ^ 64
+    → query_at_in (query_at_bytes version text) ≡ Some (version, text)
+unfolding query_at_in query_at_bytes
+query_at_again version text fits = u64s_read.again version text fits

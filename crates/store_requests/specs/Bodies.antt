@@ -1,7 +1,7 @@
 -- The bodies of frames that hold records and versions.
 use Rattle.std.specs.Prelude.{ℕ, ◌==◌, ◌&&◌, nat_le, if◌then◌else◌, List, [], ◌∷◌, ◌++◌, length, Option, Some, None}
 use Rattle.vo_spec.specs.declared.records.Record.{Record}
-use Rattle.vo_spec.specs.Bytes.{block}
+use Rattle.vo_spec.specs.Bytes.{block, u64_bytes}
 use Rattle.vo_spec.specs.Journals.{max_signature}
 use Rattle.vo_spec.specs.Records.{record_bytes}
 use Rattle.row_bytes.specs.Reading.{byte_at, u64_at}
@@ -41,3 +41,12 @@ standing_in bytes = whole (standing_at bytes)
 
 unfoldable pub version_in : List ℕ → Option ℕ
 version_in bytes = whole (u64_at bytes)
+
+-- Queries of a version: the version, and the text behind it.
+
+unfoldable pub query_at_bytes : ℕ → List ℕ → List ℕ
+query_at_bytes version text = u64_bytes version ++ text
+
+-- the version and the text, which may be no query
+unfoldable pub query_at_in : List ℕ → Option (ℕ × List ℕ)
+query_at_in bytes = u64_at bytes

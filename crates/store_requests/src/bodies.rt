@@ -2,12 +2,12 @@
 ghost use Rattle.std.specs.Prelude.{◌≡◌, ◌+◌, ◌≤◌, length, Vec, option_map, IfOk};
 ghost use Rattle.vo_spec.specs.Journals.{max_signature};
 ghost use Rattle.row_bytes.specs.Fields.{Found};
-ghost use Rattle.store_requests.specs.Bodies.{install_bytes, install_in, standing_bytes, standing_at, standing_in, version_in};
+ghost use Rattle.store_requests.specs.Bodies.{install_bytes, install_in, standing_bytes, standing_at, standing_in, version_in, query_at_bytes, query_at_in};
 
 use row_bytes::Cursor;
 use std::alloc::{AllocError, Global};
 use version_record::{record_bytes, take_record};
-use vo_spec::{MAX_SIGNATURE, Record, u32_bytes};
+use vo_spec::{MAX_SIGNATURE, Record, u32_bytes, u64_bytes};
 
 /// A record and its signature, as the body of a request has them.
 #[derive(Debug, Drop)]
@@ -102,4 +102,35 @@ pub fn read_version(body: &[u8]) -> Option<u64>
     } else {
         None
     }
+}
+
+/// A version and the text of a query of it, as the body of a request has them.
+#[derive(Clone, Copy, Debug)]
+pub struct QueryAtBody<'b> {
+    pub version: u64,
+    pub text: &'b [u8],
+}
+
+/// The body of the request that asks a query, given as text, of a version.
+#[tactic(auto, unfolding(crate::specs::Bodies::query_at_bytes))]
+pub fn query_at_body(alloc: Global, version: u64, text: &[u8]) -> Result<Vec<u8>, AllocError>
+    ensures { IfOk result (λ body. body.items ≡ query_at_bytes version text.now) }
+{
+    let mut body = Vec::new(alloc);
+    body.extend_from_slice(&u64_bytes(version))?;
+    body.extend_from_slice(text)?;
+    Ok(body)
+}
+
+/// The version and the text that the body of such a request is. The text may be no query.
+#[tactic(auto, unfolding(crate::specs::Bodies::query_at_in))]
+pub fn read_query_at(body: &[u8]) -> Option<QueryAtBody<'_>>
+    ensures { option_map (λ read. (read.version, read.text.now)) result ≡ query_at_in body.now }
+{
+    let mut cursor = Cursor::new(body);
+    let version = cursor.take_u64()?;
+    Some(QueryAtBody {
+        version,
+        text: cursor.rest(),
+    })
 }

@@ -12,7 +12,7 @@ ghost use Rattle.batch_format.specs.BatchReading.{batch_of};
 ghost use Rattle.sql_text.specs.Limits.{max_sql_bytes};
 ghost use Rattle.sql_text.specs.Queries.{query};
 ghost use Rattle.sql_text.specs.Texts.{IsTextOf};
-ghost use Rattle.store_requests.specs.Bodies.{install_bytes, install_in, standing_bytes, standing_in, version_in};
+ghost use Rattle.store_requests.specs.Bodies.{install_bytes, install_in, standing_bytes, standing_in, version_in, query_at_bytes, query_at_in};
 ghost use Rattle.store_requests.specs.Texts.{query_in};
 
 /// What the one side puts is what the other side reads.
@@ -26,6 +26,8 @@ pub fn bodies_read_back()
         → standing_in (standing_bytes standing) ≡ Some standing }
     ensures version { (version : ℕ) → version < 2 ^ 64
         → version_in (u64_bytes version) ≡ Some version }
+    ensures query_at { (version : ℕ) (text : List ℕ) → version < 2 ^ 64
+        → query_at_in (query_at_bytes version text) ≡ Some (version, text) }
 {}
 
 /// A text is read as a query exactly where it is one by the grammar.
