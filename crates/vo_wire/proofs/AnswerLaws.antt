@@ -1,6 +1,6 @@
 -- What calls of a store gave, as answers.
-use Rattle.std.proofs.Common.{◌≡◌, ℕ, ◌+◌, ◌<◌, ◌≤◌, ◌^◌, Bool, true, false, List, length, Option, Some, None, Result, Ok, Err, IfOk, IfSome, IsErr, OnOk, refl, sym, ap, ◌∙◌, subst, arith, leb-true}
-use Rattle.std.specs.Prelude.{nat_le, if◌then◌else◌}
+use Rattle.std.proofs.Common.{◌≡◌, ℕ, ◌+◌, ◌-◌, ◌<◌, ◌≤◌, ◌^◌, Bool, true, false, List, length, Option, Some, None, Result, Ok, Err, IfOk, IfSome, IsErr, OnOk, refl, sym, ap, ◌∙◌, subst, arith, leb-true}
+use Rattle.std.specs.Prelude.{nat_le, ◌&&◌, if◌then◌else◌}
 use Rattle.std.specs.Option.{option_map_or}
 use Rattle.std.specs.declared.alloc.AllocError.{AllocError}
 use Rattle.vo_spec.specs.Conditions.{Query}
@@ -13,9 +13,10 @@ use Rattle.link_frames.specs.declared.frame.Frame.{Frame}
 use Rattle.vo_store.specs.declared.fault.StoreFault.{StoreFault}
 use Rattle.vo_store.specs.declared.fault.StoreFault.TheVariants as fault
 use Rattle.vo_store.specs.declared.signed_record.SignedRecord.{SignedRecord}
-use Rattle.vo_store.specs.StoreState.{StoreState}
-use Rattle.vo_store.specs.Calls.{Gives, answer_of, within_limit}
-use Rattle.vo_wire.specs.Answering.{KindAndBody, frame_answer, refusal, code_of, proofs_answer, store_after, reply_to}
+use Rattle.vo_store.specs.declared.kept_version.KeptVersion.{KeptVersion}
+use Rattle.vo_store.specs.StoreState.{StoreState, oldest_of}
+use Rattle.vo_store.specs.Calls.{Gives, answer_of, answer_at_of, kept_at, reply_of_version, within_limit}
+use Rattle.vo_wire.specs.Answering.{KindAndBody, answer_by, frame_answer, refusal, code_of, proofs_answer, store_after, reply_to}
 
 abbrev pub IsAnswer : Result (Option Frame) AllocError → Option KindAndBody → Type 0
 IsAnswer result due = IfOk result (λ answer. frame_answer answer ≡ due)
@@ -41,6 +42,7 @@ pub refused : {X Y : Type 0} (view : X → Y) (to : Result Y StoreFault → Kind
 refused view to fault.Memory due result is g memory h = failed_answer result (Some (to due)) (memory refl)
 refused view to fault.Empty due result is g memory h = same_answer result _ _ (ap (λ (a : KindAndBody). Some a) (sym is ∙ sym (ap to g))) h
 refused view to (fault.TooLarge size) due result is g memory h = same_answer result _ _ (ap (λ (a : KindAndBody). Some a) (sym is ∙ sym (ap to g))) h
+refused view to (fault.NoVersion version oldest newest) due result is g memory h = same_answer result _ _ (ap (λ (a : KindAndBody). Some a) (sym is ∙ sym (ap to g))) h
 refused view to fault.NothingProposed due result is g memory h = same_answer result _ _ (ap (λ (a : KindAndBody). Some a) (sym is ∙ sym (ap to g))) h
 refused view to (fault.WrongRecord want got) due result is g memory h = same_answer result _ _ (ap (λ (a : KindAndBody). Some a) (sym is ∙ sym (ap to g))) h
 refused view to fault.BadSignature due result is g memory h = same_answer result _ _ (ap (λ (a : KindAndBody). Some a) (sym is ∙ sym (ap to g))) h
@@ -55,6 +57,7 @@ stayed view after fault.Memory due (Ok frame) old new g memory same = absurd (cc
 stayed view after fault.Memory due (Err failed) old new g memory same = tt
 stayed view after fault.Empty due result old new g memory same = on_ok result (same ∙ sym (ap (store_after after old) g))
 stayed view after (fault.TooLarge size) due result old new g memory same = on_ok result (same ∙ sym (ap (store_after after old) g))
+stayed view after (fault.NoVersion version oldest newest) due result old new g memory same = on_ok result (same ∙ sym (ap (store_after after old) g))
 stayed view after fault.NothingProposed due result old new g memory same = on_ok result (same ∙ sym (ap (store_after after old) g))
 stayed view after (fault.WrongRecord want got) due result old new g memory same = on_ok result (same ∙ sym (ap (store_after after old) g))
 stayed view after fault.BadSignature due result old new g memory same = on_ok result (same ∙ sym (ap (store_after after old) g))
@@ -76,23 +79,25 @@ never_none P (Err why) due h = tt
 
 -- a frame that is no request has no answer
 pub no_answer : (s : StoreState) (kind : FrameKind) (body : List ℕ) → (kind ≡ kinds.Query → ⊥) → (kind ≡ kinds.Status → ⊥)
-    → (kind ≡ kinds.Propose → ⊥) → (kind ≡ kinds.Install → ⊥) → None ≡ reply_to s kind body
+    → (kind ≡ kinds.Propose → ⊥) → (kind ≡ kinds.Install → ⊥) → (kind ≡ kinds.QueryAt → ⊥) → None ≡ reply_to s kind body
 unfolding reply_to
-no_answer s kinds.Query body query status propose install = absurd (query refl)
-no_answer s kinds.Status body query status propose install = absurd (status refl)
-no_answer s kinds.Propose body query status propose install = absurd (propose refl)
-no_answer s kinds.Install body query status propose install = absurd (install refl)
-no_answer s kinds.Reply body query status propose install = refl
-no_answer s kinds.Standing body query status propose install = refl
-no_answer s kinds.Proofs body query status propose install = refl
-no_answer s kinds.Installed body query status propose install = refl
-no_answer s kinds.Refusal body query status propose install = refl
+no_answer s kinds.Query body query status propose install query_at = absurd (query refl)
+no_answer s kinds.Status body query status propose install query_at = absurd (status refl)
+no_answer s kinds.Propose body query status propose install query_at = absurd (propose refl)
+no_answer s kinds.Install body query status propose install query_at = absurd (install refl)
+no_answer s kinds.QueryAt body query status propose install query_at = absurd (query_at refl)
+no_answer s kinds.Reply body query status propose install query_at = refl
+no_answer s kinds.Standing body query status propose install query_at = refl
+no_answer s kinds.Proofs body query status propose install query_at = refl
+no_answer s kinds.Installed body query status propose install query_at = refl
+no_answer s kinds.Refusal body query status propose install query_at = refl
 
 -- a refusal of a proposal, but of a command
 pub refuses_all : (why : StoreFault) → ((index : ℕ) (because : CommandFault) (proofs : List ℕ) → why ≡ fault.Command index because proofs → ⊥)
     → proofs_answer (Err why) ≡ refusal (code_of why)
 refuses_all fault.Empty other = refl
 refuses_all (fault.TooLarge size) other = refl
+refuses_all (fault.NoVersion version oldest newest) other = refl
 refuses_all fault.NothingProposed other = refl
 refuses_all (fault.WrongRecord want got) other = refl
 refuses_all fault.BadSignature other = refl
@@ -110,16 +115,44 @@ limited : (test : Bool) (bytes reply : List ℕ) (why : StoreFault) → within t
 limited true bytes reply why e = (refl, cc)
 limited false bytes reply why e = absurd (cc)
 
-pub reply_short : (s : StoreState) (q : Query) (reply : List ℕ) → answer_of s q ≡ Ok reply → length reply + 1 < 2 ^ 32
+limit_short : (bytes reply : List ℕ) → within_limit bytes ≡ Ok reply → length reply + 1 < 2 ^ 32
+limit_short bytes reply e =
+    let h = limited (nat_le (length bytes) max_reply) bytes reply (fault.TooLarge (length bytes)) e in
+    let fits : length bytes ≤ max_reply = leb-true (length bytes) max_reply h.0 in
+    subst (λ (b : List ℕ). length b + 1 < 2 ^ 32) h.1 (omega (arith, fits))
+
+answer_short : (s : StoreState) (q : Query) (reply : List ℕ) → answer_of s q ≡ Ok reply → length reply + 1 < 2 ^ 32
 unfolding answer_of
-reply_short s q reply e = short s.installed e
+answer_short s q reply e = short s.installed e
   where
     short : (installed : Option SignedRecord)
         → option_map_or (λ (r : SignedRecord). within_limit (reply_bytes (honest_reply q r.rec r.signature s.tables))) installed (Err fault.Empty) ≡ Ok reply
         → length reply + 1 < 2 ^ 32
     short None f = absurd (cc)
+    short (Some r) f = limit_short (reply_bytes (honest_reply q r.rec r.signature s.tables)) reply f
+
+limit_where_kept : (test : Bool) (bytes reply : List ℕ) (why : StoreFault)
+    → (if test then within_limit bytes else Err why) ≡ Ok reply → length reply + 1 < 2 ^ 32
+limit_where_kept true bytes reply why e = limit_short bytes reply e
+limit_where_kept false bytes reply why e = absurd (cc)
+
+answer_at_short : (s : StoreState) (version : ℕ) (q : Query) (reply : List ℕ) → answer_at_of s version q ≡ Ok reply
+    → length reply + 1 < 2 ^ 32
+unfolding answer_at_of
+answer_at_short s version q reply e = short s.installed e
+  where
+    short : (installed : Option SignedRecord)
+        → option_map_or (reply_of_version q version s) installed (Err fault.Empty) ≡ Ok reply → length reply + 1 < 2 ^ 32
+    short None f = absurd (cc)
     short (Some r) f =
-        let bytes : List ℕ = reply_bytes (honest_reply q r.rec r.signature s.tables) in
-        let h = limited (nat_le (length bytes) max_reply) bytes reply (fault.TooLarge (length bytes)) f in
-        let fits : length bytes ≤ max_reply = leb-true (length bytes) max_reply h.0 in
-        subst (λ (b : List ℕ). length b + 1 < 2 ^ 32) h.1 (omega (arith, fits))
+        let newest : ℕ = r.rec.version in
+        let oldest : ℕ = oldest_of newest in
+        let kept : KeptVersion = kept_at s.earlier r s.tables (version - oldest) in
+        limit_where_kept (nat_le oldest version && nat_le version newest)
+        (reply_bytes (honest_reply q kept.signed.rec kept.signed.signature kept.tables)) reply
+        (fault.NoVersion version oldest newest) f
+
+pub reply_short : (s : StoreState) (at : Option ℕ) (q : Query) (reply : List ℕ) → answer_by s at q ≡ Ok reply
+    → length reply + 1 < 2 ^ 32
+reply_short s None q reply e = answer_short s q reply e
+reply_short s (Some version) q reply e = answer_at_short s version q reply e

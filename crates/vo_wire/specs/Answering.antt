@@ -9,13 +9,13 @@ use Rattle.batch_format.specs.BatchReading.{batch_of}
 use Rattle.link_frames.specs.declared.frame.Frame.{Frame}
 use Rattle.link_frames.specs.declared.frame_kind.FrameKind.{FrameKind}
 use Rattle.link_frames.specs.declared.frame_kind.FrameKind.TheVariants as kind
-use Rattle.store_requests.specs.Bodies.{install_in, standing_bytes}
+use Rattle.store_requests.specs.Bodies.{install_in, standing_bytes, query_at_in}
 use Rattle.store_requests.specs.Texts.{query_in}
 use Rattle.vo_store.specs.declared.fault.StoreFault.{StoreFault}
 use Rattle.vo_store.specs.declared.fault.StoreFault.TheVariants as fault
 use Rattle.vo_store.specs.declared.signed_record.SignedRecord.{SignedRecord}
 use Rattle.vo_store.specs.StoreState.{StoreState}
-use Rattle.vo_store.specs.Calls.{answer_of, proposal_of, install_of}
+use Rattle.vo_store.specs.Calls.{answer_of, answer_at_of, proposal_of, install_of}
 
 -- Answers.
 
@@ -59,9 +59,18 @@ abbrev pub reply_answer : Result (List ℕ) StoreFault → KindAndBody
 reply_answer (Ok reply) = (kind.Reply, reply)
 reply_answer (Err why) = refusal (code_of why)
 
-abbrev pub query_answer : StoreState → Option Query → KindAndBody
-query_answer s None = refusal no_query
-query_answer s (Some q) = reply_answer (answer_of s q)
+-- the store's answer by the version that it stands at, or by this one
+abbrev pub answer_by : StoreState → Option ℕ → Query → Result (List ℕ) StoreFault
+answer_by s None q = answer_of s q
+answer_by s (Some version) q = answer_at_of s version q
+
+abbrev pub query_answer : StoreState → Option ℕ → Option Query → KindAndBody
+query_answer s at None = refusal no_query
+query_answer s at (Some q) = reply_answer (answer_by s at q)
+
+-- a version and a text
+abbrev pub query_at_answer : StoreState → ℕ × List ℕ → KindAndBody
+query_at_answer s asked = query_answer s (Some asked.0) (query_in asked.1)
 
 -- Status.
 
@@ -109,10 +118,11 @@ after_install s signed = store_after (λ next. next) s (install_of s signed.0 si
 
 -- none where the body is none of its kind
 unfoldable pub reply_to : StoreState → FrameKind → List ℕ → Option KindAndBody
-reply_to s kind.Query body = Some (query_answer s (query_in body))
+reply_to s kind.Query body = Some (query_answer s None (query_in body))
 reply_to s kind.Status body = status_answer s body
 reply_to s kind.Propose body = option_map (proposal_answer s) (batch_of body)
 reply_to s kind.Install body = option_map (install_answer s) (install_in body)
+reply_to s kind.QueryAt body = option_map (query_at_answer s) (query_at_in body)
 reply_to s _ body = None
 
 -- the store after a request that is answered

@@ -15,7 +15,7 @@ mod responder;
 mod statuses;
 mod versions;
 
-pub use asking::{ask_into, fetch_into};
+pub use asking::{ask_at_into, ask_into, fetch_at_into, fetch_into};
 pub use connections::ServeFault;
 pub use link_frames::End;
 pub use link_serving::serve_link;

@@ -3,7 +3,7 @@ ghost use Rattle.std.specs.Prelude.{◌≡◌, None, IfOk, IfSome, OnErr};
 ghost use Rattle.vo_wire.specs.Answering.{FitsFrame, frame_answer, reply_to, next_after};
 
 use crate::loan::{LentStore, Loan, StoreServer};
-use crate::queries::answer_query;
+use crate::queries::{answer_query, answer_query_at};
 use crate::statuses::answer_status;
 use crate::versions::{answer_install, answer_proposal};
 use link_frames::{Frame, FrameKind, Responder};
@@ -71,10 +71,11 @@ fn answer_request(
     ensures err { OnErr result (store.new ≡ store.old) }
 {
     match kind {
-        FrameKind::Query => answer_query(alloc, store, body),
+        FrameKind::Query => answer_query(alloc, store, None, body),
         FrameKind::Status => answer_status(alloc, store, body),
         FrameKind::Propose => answer_proposal(alloc, store, body),
         FrameKind::Install => answer_install(alloc, store, body),
+        FrameKind::QueryAt => answer_query_at(alloc, store, body),
         _ => Ok(None),
     }
 }

@@ -9,7 +9,7 @@ pub returns-in-Ok-clause-answer : goal.returns-in-Ok-clause-answer
 returns-in-Ok-clause-answer c = ap (λ (a : KindAndBody). Some a) (sym (ap reply_answer c.in-Ok.ensures))
 
 pub returns-in-Ok-clause-fits : goal.returns-in-Ok-clause-fits
-returns-in-Ok-clause-fits c = reply_short c.args.store.now (query_of c.args.query.now) c.in-Ok.body.items c.in-Ok.ensures
+returns-in-Ok-clause-fits c = reply_short c.args.store.now c.args.at (query_of c.args.query.now) c.in-Ok.body.items c.in-Ok.ensures
 
 pub returns-in-Err-clause-answer : goal.returns-in-Err-clause-answer
 returns-in-Err-clause-answer c =
