@@ -114,7 +114,8 @@ pub struct QueryAtBody<'b> {
 /// The body of the request that asks a query, given as text, of a version.
 #[tactic(auto, unfolding(crate::specs::Bodies::query_at_bytes))]
 pub fn query_at_body(alloc: Global, version: u64, text: &[u8]) -> Result<Vec<u8>, AllocError>
-    ensures { IfOk result (λ body. body.items ≡ query_at_bytes version text.now) }
+    ensures bytes { IfOk result (λ body. body.items ≡ query_at_bytes version text.now) }
+    ensures size { IfOk result (λ body. length body.items ≡ 8 + length text.now) }
 {
     let mut body = Vec::new(alloc);
     body.extend_from_slice(&u64_bytes(version))?;
