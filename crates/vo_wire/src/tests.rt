@@ -1,7 +1,8 @@
 //! Served connections of an empty store, and of one that an owner fills, and a reply that is
 //! checked as it comes.
 use crate::{
-    End, WireFault, ask_into, fetch_into, install_link, propose_link, serve_link, status_link,
+    End, WireFault, ask_at_into, ask_into, fetch_at_into, fetch_into, install_link, propose_link,
+    serve_link, status_link,
 };
 use lms_sign::{OtsType, PublicKey, SecretKey};
 use outside::{MemNet, Net, Never};
@@ -12,6 +13,15 @@ use store_requests::read_query;
 use vo_check::Client;
 use vo_spec::{Answer, Batch, CheckFault, Digest, List, Outcome, QueryFault, QueryText, Record};
 use vo_store::Store;
+
+/// Requests of one query: of the newest version, of version 0 and of version 1.
+const ASKS: &[u8] = b"\x00\x00\x00\x10\x01SELECT * FROM t";
+
+const ASKS_VERSION_0: &[u8] =
+    b"\x00\x00\x00\x18\x05\x00\x00\x00\x00\x00\x00\x00\x00SELECT * FROM t";
+
+const ASKS_VERSION_1: &[u8] =
+    b"\x00\x00\x00\x18\x05\x00\x00\x00\x00\x00\x00\x00\x01SELECT * FROM t";
 
 /// A network of one connection to come.
 fn network(alloc: Global, coming: &[u8]) -> Result<MemNet<Never>, AllocError> {
@@ -66,6 +76,18 @@ fn an_empty_store_refuses(rt: HostRuntime) -> Result<(), Fail> {
     assert!(rt; empty_store_ends(rt.alloc(), coming, End::Closed, due)?);
     let no_batch = b"\x00\x00\x00\x03\x03\x00\x01\x00";
     assert!(rt; empty_store_ends(rt.alloc(), no_batch, End::BadFrame { length: 3 }, b"")?);
+    Ok(())
+}
+
+#[test]
+fn an_empty_store_has_no_version(rt: HostRuntime) -> Result<(), Fail> {
+    // A text that is no query, and a query.
+    let coming = b"\x00\x00\x00\x0a\x05\x00\x00\x00\x00\x00\x00\x00\x00x\
+        \x00\x00\x00\x18\x05\x00\x00\x00\x00\x00\x00\x00\x00SELECT * FROM t";
+    let due = b"\x00\x00\x00\x02\x8f\x01\x00\x00\x00\x02\x8f\x02";
+    assert!(rt; empty_store_ends(rt.alloc(), coming, End::Closed, due)?);
+    let no_text = b"\x00\x00\x00\x09\x05\x00\x00\x00\x00\x00\x00\x00\x00";
+    assert!(rt; empty_store_ends(rt.alloc(), no_text, End::BadFrame { length: 9 }, b"")?);
     Ok(())
 }
 
@@ -163,36 +185,38 @@ fn answers_are_read(rt: HostRuntime) -> Result<(), Fail> {
     Ok(())
 }
 
-/// What a store that the owner of this key has filled replies to a query.
-fn reply_on(
+/// What a store that the owner of this key has filled answers to a request.
+fn answer_on(
     alloc: Global,
     store: &mut Store,
     net: &mut MemNet<Never>,
+    request: &[u8],
 ) -> Result<Vec<u8>, AllocError> {
     let _ = served_end(alloc, store, net);
-    let mut asking = network(alloc, b"\x00\x00\x00\x10\x01SELECT * FROM t")?;
+    let mut asking = network(alloc, request)?;
     let _ = served_end(alloc, store, &mut asking);
     let sent = Vec::from_slice(alloc, asking.sent());
     drop(asking);
     sent
 }
 
-fn reply_to_query(
+fn answer_by_store(
     alloc: Global,
     key: PublicKey,
     net: &mut MemNet<Never>,
+    request: &[u8],
 ) -> Result<Vec<u8>, AllocError> {
     let mut store = Store::new(alloc, key)?;
-    let reply = reply_on(alloc, &mut store, net);
+    let answer = answer_on(alloc, &mut store, net, request);
     drop(store);
-    reply
+    answer
 }
 
-fn reply(alloc: Global, key: &SecretKey) -> Result<Vec<u8>, AllocError> {
+fn answer(alloc: Global, key: &SecretKey, request: &[u8]) -> Result<Vec<u8>, AllocError> {
     let mut net = owner_network(alloc, key)?;
-    let reply = reply_to_query(alloc, key.public(), &mut net);
+    let answer = answer_by_store(alloc, key.public(), &mut net, request);
     drop(net);
-    reply
+    answer
 }
 
 /// Whether this is an answer of version 0 that there is no such table.
@@ -231,6 +255,29 @@ fn is_fetched(
     is_wrong(checking.end(alloc, client)) && is_fetched
 }
 
+fn is_asked_at(
+    alloc: Global,
+    client: &mut Client,
+    query: &QueryText,
+    net: &mut MemNet<Never>,
+) -> bool {
+    let mut checking = client.begin(alloc, query);
+    let is_connected = net.next().is_ok();
+    let is_asked = ask_at_into(alloc, net, 0, b"SELECT * FROM t", &mut checking).is_ok();
+    is_wrong(checking.end(alloc, client)) && is_connected && is_asked
+}
+
+fn is_fetched_at(
+    alloc: Global,
+    client: &mut Client,
+    query: &QueryText,
+    net: &mut MemNet<Never>,
+) -> bool {
+    let mut checking = client.begin(alloc, query);
+    let end = fetch_at_into(alloc, net, "there", 0, b"SELECT * FROM t", &mut checking);
+    is_wrong(checking.end(alloc, client)) && end.is_ok() && net.sent() == ASKS_VERSION_0
+}
+
 /// Whether a reply is taken over a connection that stands, and over one of its own.
 fn is_checked_twice(
     alloc: Global,
@@ -248,10 +295,38 @@ fn is_checked_twice(
     Ok(is_asked && is_fetched)
 }
 
+/// The same of a reply that is asked of version 0.
+fn is_checked_twice_at(
+    alloc: Global,
+    key: PublicKey,
+    query: &QueryText,
+    reply: &[u8],
+) -> Result<bool, AllocError> {
+    let mut client = Client::new(key, 0);
+    let mut net = network(alloc, reply)?;
+    let is_asked = is_asked_at(alloc, &mut client, query, &mut net);
+    drop(net);
+    let mut net = network(alloc, reply)?;
+    let is_fetched = is_fetched_at(alloc, &mut client, query, &mut net);
+    drop(net);
+    Ok(is_asked && is_fetched)
+}
+
+fn is_checked_by(
+    alloc: Global,
+    key: PublicKey,
+    query: &QueryText,
+    reply: &[u8],
+) -> Result<bool, AllocError> {
+    let of_newest = is_checked_twice(alloc, key, query, reply)?;
+    let of_version = is_checked_twice_at(alloc, key, query, reply)?;
+    Ok(of_newest && of_version)
+}
+
 fn is_checked(alloc: Global, key: PublicKey, reply: &[u8]) -> Result<bool, AllocError> {
     match read_query(alloc, b"SELECT * FROM t")? {
         Some(query) => {
-            let is_checked = is_checked_twice(alloc, key, &query, reply);
+            let is_checked = is_checked_by(alloc, key, &query, reply);
             drop(query);
             is_checked
         }
@@ -260,7 +335,7 @@ fn is_checked(alloc: Global, key: PublicKey, reply: &[u8]) -> Result<bool, Alloc
 }
 
 fn reply_is_checked(alloc: Global, key: &SecretKey) -> Result<bool, AllocError> {
-    let reply = reply(alloc, key)?;
+    let reply = answer(alloc, key, ASKS)?;
     let is_checked = is_checked(alloc, key.public(), &reply);
     drop(reply);
     is_checked
@@ -272,5 +347,32 @@ fn a_reply_is_checked_as_it_comes(rt: HostRuntime) -> Result<(), Fail> {
     let is_checked = reply_is_checked(rt.alloc(), &key);
     drop(key);
     assert!(rt; is_checked?);
+    Ok(())
+}
+
+fn are_same_reply(alloc: Global, key: &SecretKey, newest: &[u8]) -> Result<bool, AllocError> {
+    let of_version = answer(alloc, key, ASKS_VERSION_0)?;
+    let are_same = of_version.as_slice() == newest && newest.len() > 6;
+    drop(of_version);
+    Ok(are_same)
+}
+
+/// Whether version 0 is replied to as the newest, which it is, and version 1 is refused.
+fn versions_are_answered(alloc: Global, key: &SecretKey) -> Result<bool, AllocError> {
+    let newest = answer(alloc, key, ASKS)?;
+    let are_same = are_same_reply(alloc, key, &newest);
+    drop(newest);
+    let refusal = answer(alloc, key, ASKS_VERSION_1)?;
+    let is_refused = refusal.as_slice() == b"\x00\x00\x00\x02\x8f\x07";
+    drop(refusal);
+    Ok(are_same? && is_refused)
+}
+
+#[test]
+fn a_version_is_asked(rt: HostRuntime) -> Result<(), Fail> {
+    let key = SecretKey::make(rt.alloc(), [7; 16], [8; 32], OtsType::W1, 5)?;
+    let are_answered = versions_are_answered(rt.alloc(), &key);
+    drop(key);
+    assert!(rt; are_answered?);
     Ok(())
 }
