@@ -39,7 +39,8 @@ pub fn ask_into<L: Link>(
     ensures counts { KeepsLinkCounts L.wire L.faults L.misses link.old link.new
         (IsErrOf result WireFault.LinkFault) }
 {
-    request_reply(alloc, link, FrameKind::Query, text, checking)
+    let mut feeder = Feeder { alloc, checking };
+    answer_into(link, FrameKind::Query, text, Awaits::Reply, &mut feeder)
 }
 
 /// The same of this version, also where the store has installed later ones. Which version the reply
@@ -64,34 +65,11 @@ pub fn ask_at_into<L: Link>(
     ensures counts { KeepsLinkCounts L.wire L.faults L.misses link.old link.new
         (IsErrOf result WireFault.LinkFault) }
 {
+    let mut feeder = Feeder { alloc, checking };
     match query_at_body(alloc, version, text) {
-        Ok(body) => request_reply(alloc, link, FrameKind::QueryAt, &body, checking),
+        Ok(body) => answer_into(link, FrameKind::QueryAt, &body, Awaits::Reply, &mut feeder),
         Err(_) => Err(WireFault::Memory),
     }
-}
-
-/// Puts a request that is answered by a reply, and feeds the check with that.
-fn request_reply<L: Link>(
-    alloc: Global,
-    link: &mut L,
-    kind: FrameKind,
-    body: &[u8],
-    checking: &mut Checking<'_>,
-) -> Result<(), WireFault>
-    requires { length body.now + 1 < 2 ^ 32 }
-    ensures known { (before : ConnectionModel) → L.wire link.old ≡ Some before
-        → RequestsInto (λ reply. checking.new ≡ with_piece checking.old reply)
-        (frame_bytes kind body.now) (first_frame Reply before.coming) result before
-        (L.wire link.new) }
-    ensures short { OnOk result
-        (length checking.new.bytes + 1 < length checking.old.bytes + 2 ^ 32) }
-    ensures query { checking.new.query ≡ checking.old.query }
-
-    ensures counts { KeepsLinkCounts L.wire L.faults L.misses link.old link.new
-        (IsErrOf result WireFault.LinkFault) }
-{
-    let mut feeder = Feeder { alloc, checking };
-    answer_into(link, kind, body, Awaits::Reply, &mut feeder)
 }
 
 /// Asks a query over a connection that is made to this address, which stays as it is afterwards,

@@ -10,7 +10,7 @@ use owner_state::Owner;
 use std::alloc::{AllocError, Global};
 use std::test::Fail;
 use store_requests::read_query;
-use vo_check::Client;
+use vo_check::{Checking, Client};
 use vo_spec::{Answer, Batch, CheckFault, Digest, List, Outcome, QueryFault, QueryText, Record};
 use vo_store::Store;
 
@@ -232,15 +232,44 @@ fn is_wrong(answer: Result<Answer, CheckFault>) -> bool {
     }
 }
 
+/// How asking ended: of this version, or of the newest.
+fn asking_end(
+    alloc: Global,
+    net: &mut MemNet<Never>,
+    at: Option<u64>,
+    checking: &mut Checking<'_>,
+) -> Result<(), WireFault> {
+    match at {
+        Some(version) => ask_at_into(alloc, net, version, b"SELECT * FROM t", checking),
+        None => ask_into(alloc, net, b"SELECT * FROM t", checking),
+    }
+}
+
+/// The same over a connection that is made.
+fn fetching_end(
+    alloc: Global,
+    net: &mut MemNet<Never>,
+    at: Option<u64>,
+    checking: &mut Checking<'_>,
+) -> Result<(), WireFault> {
+    match at {
+        Some(version) => {
+            fetch_at_into(alloc, net, "there", version, b"SELECT * FROM t", checking)
+        }
+        None => fetch_into(alloc, net, "there", b"SELECT * FROM t", checking),
+    }
+}
+
 fn is_asked(
     alloc: Global,
     client: &mut Client,
     query: &QueryText,
+    at: Option<u64>,
     net: &mut MemNet<Never>,
 ) -> bool {
     let mut checking = client.begin(alloc, query);
     let is_connected = net.next().is_ok();
-    let is_asked = ask_into(alloc, net, b"SELECT * FROM t", &mut checking).is_ok();
+    let is_asked = asking_end(alloc, net, at, &mut checking).is_ok();
     is_wrong(checking.end(alloc, client)) && is_connected && is_asked
 }
 
@@ -248,68 +277,32 @@ fn is_fetched(
     alloc: Global,
     client: &mut Client,
     query: &QueryText,
+    at: Option<u64>,
     net: &mut MemNet<Never>,
 ) -> bool {
     let mut checking = client.begin(alloc, query);
-    let is_fetched = fetch_into(alloc, net, "there", b"SELECT * FROM t", &mut checking).is_ok();
+    let is_fetched = fetching_end(alloc, net, at, &mut checking).is_ok();
     is_wrong(checking.end(alloc, client)) && is_fetched
 }
 
-fn is_asked_at(
-    alloc: Global,
-    client: &mut Client,
-    query: &QueryText,
-    net: &mut MemNet<Never>,
-) -> bool {
-    let mut checking = client.begin(alloc, query);
-    let is_connected = net.next().is_ok();
-    let is_asked = ask_at_into(alloc, net, 0, b"SELECT * FROM t", &mut checking).is_ok();
-    is_wrong(checking.end(alloc, client)) && is_connected && is_asked
-}
-
-fn is_fetched_at(
-    alloc: Global,
-    client: &mut Client,
-    query: &QueryText,
-    net: &mut MemNet<Never>,
-) -> bool {
-    let mut checking = client.begin(alloc, query);
-    let end = fetch_at_into(alloc, net, "there", 0, b"SELECT * FROM t", &mut checking);
-    is_wrong(checking.end(alloc, client)) && end.is_ok() && net.sent() == ASKS_VERSION_0
-}
-
-/// Whether a reply is taken over a connection that stands, and over one of its own.
+/// Whether a reply is taken over a connection that stands, and over one of its own, on which this
+/// is asked.
 fn is_checked_twice(
     alloc: Global,
     key: PublicKey,
     query: &QueryText,
     reply: &[u8],
+    (at, asked): (Option<u64>, &[u8]),
 ) -> Result<bool, AllocError> {
     let mut client = Client::new(key, 0);
     let mut net = network(alloc, reply)?;
-    let is_asked = is_asked(alloc, &mut client, query, &mut net);
+    let is_asked = is_asked(alloc, &mut client, query, at, &mut net);
     drop(net);
     let mut net = network(alloc, reply)?;
-    let is_fetched = is_fetched(alloc, &mut client, query, &mut net);
+    let is_fetched = is_fetched(alloc, &mut client, query, at, &mut net);
+    let is_put = net.sent() == asked;
     drop(net);
-    Ok(is_asked && is_fetched)
-}
-
-/// The same of a reply that is asked of version 0.
-fn is_checked_twice_at(
-    alloc: Global,
-    key: PublicKey,
-    query: &QueryText,
-    reply: &[u8],
-) -> Result<bool, AllocError> {
-    let mut client = Client::new(key, 0);
-    let mut net = network(alloc, reply)?;
-    let is_asked = is_asked_at(alloc, &mut client, query, &mut net);
-    drop(net);
-    let mut net = network(alloc, reply)?;
-    let is_fetched = is_fetched_at(alloc, &mut client, query, &mut net);
-    drop(net);
-    Ok(is_asked && is_fetched)
+    Ok(is_asked && is_fetched && is_put)
 }
 
 fn is_checked_by(
@@ -318,8 +311,8 @@ fn is_checked_by(
     query: &QueryText,
     reply: &[u8],
 ) -> Result<bool, AllocError> {
-    let of_newest = is_checked_twice(alloc, key, query, reply)?;
-    let of_version = is_checked_twice_at(alloc, key, query, reply)?;
+    let of_newest = is_checked_twice(alloc, key, query, reply, (None, ASKS))?;
+    let of_version = is_checked_twice(alloc, key, query, reply, (Some(0), ASKS_VERSION_0))?;
     Ok(of_newest && of_version)
 }
 
