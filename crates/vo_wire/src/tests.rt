@@ -356,7 +356,7 @@ fn versions_are_answered(alloc: Global, key: &SecretKey) -> Result<bool, AllocEr
     let are_same = are_same_reply(alloc, key, &newest);
     drop(newest);
     let refusal = answer(alloc, key, ASKS_VERSION_1)?;
-    let is_refused = refusal.as_slice() == b"\x00\x00\x00\x02\x8f\x07";
+    let is_refused = refusal.as_slice() == b"\x00\x00\x00\x02\x8f\x07".as_slice();
     drop(refusal);
     Ok(are_same? && is_refused)
 }
