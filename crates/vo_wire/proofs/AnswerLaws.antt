@@ -115,44 +115,46 @@ limited : (test : Bool) (bytes reply : List ℕ) (why : StoreFault) → within t
 limited true bytes reply why e = (refl, cc)
 limited false bytes reply why e = absurd (cc)
 
-limit_short : (bytes reply : List ℕ) → within_limit bytes ≡ Ok reply → length reply + 1 < 2 ^ 32
-limit_short bytes reply e =
+within_is : (bytes reply : List ℕ) → within_limit bytes ≡ Ok reply → length reply ≤ max_reply
+within_is bytes reply e =
     let h = limited (nat_le (length bytes) max_reply) bytes reply (fault.TooLarge (length bytes)) e in
-    let fits : length bytes ≤ max_reply = leb-true (length bytes) max_reply h.0 in
-    subst (λ (b : List ℕ). length b + 1 < 2 ^ 32) h.1 (omega (arith, fits))
+    subst (λ (b : List ℕ). length b ≤ max_reply) h.1 (leb-true (length bytes) max_reply h.0)
 
-answer_short : (s : StoreState) (q : Query) (reply : List ℕ) → answer_of s q ≡ Ok reply → length reply + 1 < 2 ^ 32
+newest_within : (s : StoreState) (q : Query) (reply : List ℕ) → answer_of s q ≡ Ok reply → length reply ≤ max_reply
 unfolding answer_of
-answer_short s q reply e = short s.installed e
+newest_within s q reply e = step s.installed e
   where
-    short : (installed : Option SignedRecord)
+    step : (installed : Option SignedRecord)
         → option_map_or (λ (r : SignedRecord). within_limit (reply_bytes (honest_reply q r.rec r.signature s.tables))) installed (Err fault.Empty) ≡ Ok reply
-        → length reply + 1 < 2 ^ 32
-    short None f = absurd (cc)
-    short (Some r) f = limit_short (reply_bytes (honest_reply q r.rec r.signature s.tables)) reply f
+        → length reply ≤ max_reply
+    step None f = absurd (cc)
+    step (Some r) f = within_is (reply_bytes (honest_reply q r.rec r.signature s.tables)) reply f
 
-limit_where_kept : (test : Bool) (bytes reply : List ℕ) (why : StoreFault)
-    → (if test then within_limit bytes else Err why) ≡ Ok reply → length reply + 1 < 2 ^ 32
-limit_where_kept true bytes reply why e = limit_short bytes reply e
-limit_where_kept false bytes reply why e = absurd (cc)
-
-answer_at_short : (s : StoreState) (version : ℕ) (q : Query) (reply : List ℕ) → answer_at_of s version q ≡ Ok reply
-    → length reply + 1 < 2 ^ 32
+kept_within : (s : StoreState) (version : ℕ) (q : Query) (reply : List ℕ) → answer_at_of s version q ≡ Ok reply
+    → length reply ≤ max_reply
 unfolding answer_at_of
-answer_at_short s version q reply e = short s.installed e
+kept_within s version q reply e = step s.installed e
   where
-    short : (installed : Option SignedRecord)
-        → option_map_or (reply_of_version q version s) installed (Err fault.Empty) ≡ Ok reply → length reply + 1 < 2 ^ 32
-    short None f = absurd (cc)
-    short (Some r) f =
-        let newest : ℕ = r.rec.version in
-        let oldest : ℕ = oldest_of newest in
+    if_kept : (test : Bool) (bytes : List ℕ) (why : StoreFault) → (if test then within_limit bytes else Err why) ≡ Ok reply
+        → length reply ≤ max_reply
+    if_kept true bytes why f = within_is bytes reply f
+    if_kept false bytes why f = absurd (cc)
+
+    step : (installed : Option SignedRecord) → option_map_or (reply_of_version q version s) installed (Err fault.Empty) ≡ Ok reply
+        → length reply ≤ max_reply
+    step None f = absurd (cc)
+    step (Some r) f =
+        let oldest : ℕ = oldest_of r.rec.version in
         let kept : KeptVersion = kept_at s.earlier r s.tables (version - oldest) in
-        limit_where_kept (nat_le oldest version && nat_le version newest)
-        (reply_bytes (honest_reply q kept.signed.rec kept.signed.signature kept.tables)) reply
-        (fault.NoVersion version oldest newest) f
+        if_kept (nat_le oldest version && nat_le version r.rec.version)
+        (reply_bytes (honest_reply q kept.signed.rec kept.signed.signature kept.tables))
+        (fault.NoVersion version oldest r.rec.version) f
+
+pub reply_within : (s : StoreState) (at : Option ℕ) (q : Query) (reply : List ℕ) → answer_by s at q ≡ Ok reply
+    → length reply ≤ max_reply
+reply_within s None q reply e = newest_within s q reply e
+reply_within s (Some version) q reply e = kept_within s version q reply e
 
 pub reply_short : (s : StoreState) (at : Option ℕ) (q : Query) (reply : List ℕ) → answer_by s at q ≡ Ok reply
     → length reply + 1 < 2 ^ 32
-reply_short s None q reply e = answer_short s q reply e
-reply_short s (Some version) q reply e = answer_at_short s version q reply e
+reply_short s at q reply e = omega (arith, reply_within s at q reply e)
