@@ -1,6 +1,7 @@
 -- What `ask` comes to, step by step: the key, the query, the frame that comes, and its check.
-use Rattle.std.proofs.Common.{◌≡◌, ℕ, ◌≤◌, Bool, true, false, List, [], ◌∷◌, ◌++◌, length, Option, Some, None, Result, Ok, Err, refl, sym, ap, ◌∙◌, subst, inl, inr, arith, leb-true, le-leb, eqb-true}
-use Rattle.std.specs.Prelude.{◌↔◌, ◌==◌, ◌&&◌, IsTrue, nat_lt, nat_le, is_some, if◌then◌else◌}
+use Rattle.std.proofs.Common.{◌≡◌, ℕ, ◌+◌, ◌-◌, ◌<◌, ◌≤◌, ◌^◌, Bool, true, false, List, [], ◌∷◌, ◌++◌, length, take, Option, Some, None, Result, Ok, Err, refl, sym, ap, ◌∙◌, subst, inl, inr, arith, leb-true, le-leb, eqb-true, length-append}
+use Rattle.std.specs.Prelude.{◌↔◌, ◌==◌, ◌&&◌, IfSome, IsTrue, nat_lt, nat_le, is_some, option_map, if◌then◌else◌}
+use Rattle.std.proofs.lemmas.List.{length-take}
 use Rattle.std.specs.Option.{option_map_or}
 use Rattle.std.specs.Str.{IsUtf8}
 use Rattle.std.proofs.lemmas.Bool.{and_from}
@@ -37,19 +38,24 @@ use Rattle.vo_spec.specs.declared.signatures.Levels.TheVariants.{One, Two}
 use Rattle.vo_spec.specs.Keys.{names_sets, is_key_by, is_public_key}
 use Rattle.vo_spec.specs.Replies.{max_reply, reply_bytes}
 use Rattle.vo_commands.proofs.OwnerAudits.{one_reply}
+use Rattle.store_requests.specs.Bodies.{query_at_bytes}
+use Rattle.store_requests.proofs.BodyRounds.{query_at_again}
 use Rattle.store_requests.proofs.TextReadings.{text_read}
+use Rattle.row_bytes.proofs.ValueLaws.{u64_length}
+use Rattle.vo_spec.specs.Bytes.{u64_bytes}
 use Rattle.vo_store.specs.declared.fault.StoreFault.{StoreFault}
 use Rattle.vo_store.specs.declared.fault.StoreFault.TheVariants as fault
 use Rattle.vo_store.specs.declared.signed_record.SignedRecord.{SignedRecord}
-use Rattle.vo_store.specs.Calls.{answer_of, within_limit}
+use Rattle.vo_store.specs.Calls.{answer_of, answer_at_of, kept_at, reply_by_kept, reply_of_version, within_limit}
 use Rattle.vo_store.specs.HonestStores.{IsHonestAfter, IsInstalled, IsRecordOf}
-use Rattle.vo_store.specs.StoreState.{StoreState}
-use Rattle.vo_wire.specs.Answering.{KindAndBody, code_of, query_answer, reply_answer, reply_to}
-use Rattle.vo_commands.specs.Expected.{Allows, Checks, Expected, OfQuery, ask_expected, with_answer, with_key, with_reply}
-use Rattle.vo_commands.specs.Lines.{check_output, store_refusal}
+use Rattle.vo_store.specs.StoreState.{StoreState, oldest_of}
+use Rattle.vo_wire.specs.Answering.{KindAndBody, answer_by, code_of, query_answer, query_at_answer, reply_answer, reply_to}
+use Rattle.vo_wire.proofs.AnswerLaws.{reply_within}
+use Rattle.vo_commands.specs.Expected.{Allows, Checks, Expected, OfQuery, ask_expected, question_frame, with_answer, with_key, with_reply}
+use Rattle.vo_commands.specs.Lines.{asked_output, check_output, store_refusal}
 use Rattle.vo_commands.specs.Texts.{IsQueryText}
 use Rattle.vo_commands.proofs.QueryTexts.{has_byte}
-use Rattle.honest_peers.specs.Asking.{IsAsked, question}
+use Rattle.honest_peers.specs.Asking.{IsAsked, batches_asked, question, version_asked}
 use Rattle.honest_peers.proofs.ServedConnections.{served_answers}
 use Rattle.honest_peers.proofs.Trading.{IsRequest}
 
@@ -116,52 +122,102 @@ frame_goes : (k : FrameKind) (body tail : List ℕ) (queue : List (List ℕ))
 frame_goes k body tail queue may fits rest = ap (λ (first : Coming). with_answer first rest)
     (read_back ReplyAwaited k body tail may fits)
 
+-- the kind and the body of the frame that asks
+abbrev kind_asked : Option ℕ → FrameKind
+kind_asked None = kind.Query
+kind_asked (Some version) = kind.QueryAt
+
+abbrev body_asked : Option ℕ → List ℕ → List ℕ
+body_asked None text = text
+body_asked (Some version) text = query_at_bytes version text
+
 -- what the store answers
-query_reply : (s : StoreState) (text : List ℕ) (q : Query) → IsUtf8 text → IsQueryText text q
-    → reply_to s kind.Query text ≡ Some (reply_answer (answer_of s q))
+query_reply : (s : StoreState) (text : List ℕ) (at : Option ℕ) (q : Query) → IsUtf8 text
+    → IsQueryText text q → IfSome at (λ version. version < 2 ^ 64)
+    → reply_to s (kind_asked at) (body_asked at text) ≡ Some (reply_answer (answer_by s at q))
 unfolding reply_to
-query_reply s text q utf8 is = ap (λ (o : Option Query). Some (query_answer s o))
+query_reply s text None q utf8 is fits = ap (λ (o : Option Query). Some (query_answer s None o))
     (text_read text q utf8 is)
+query_reply s text (Some version) q utf8 is fits =
+    ap (option_map (query_at_answer s)) (query_at_again version text fits)
+    ∙ ap (λ (o : Option Query). Some (query_answer s (Some version) o)) (text_read text q utf8 is)
+
+body_length : (version : ℕ) (text : List ℕ) → length (query_at_bytes version text) ≡ 8 + length text
+unfolding query_at_bytes
+body_length version text = omega
+    (arith, length-append (u64_bytes version) text, u64_length version)
 
 -- the text fits a frame
-question_is : (text : List ℕ) (q : Query) → IsQueryText text q
-    → IsRequest (frame_bytes kind.Query text) kind.Query text
-question_is text q is = record {
+question_is : (text : List ℕ) (at : Option ℕ) (q : Query) → IsQueryText text q
+    → IsRequest (question_frame at text) (kind_asked at) (body_asked at text)
+question_is text None q is = record {
   frame_is = refl;
   may = refl;
   fits = and_from _ _ (le-leb 1 (length text) (has_byte text q is))
       (le-leb (length text) 65536 is.0);
 }
+question_is text (Some version) q is =
+    let long : length (query_at_bytes version text) ≡ 8 + length text = body_length version text in
+    let some : 1 ≤ length text = has_byte text q is in
+    let short : length text ≤ 65536 = is.0 in
+    record {
+      frame_is = refl;
+      may = refl;
+      fits = and_from _ _
+          (le-leb 9 (length (query_at_bytes version text)) (omega (arith, long, some)))
+          (le-leb (length (query_at_bytes version text)) 65544 (omega (arith, long, short)));
+    }
 
--- a reply is not over the limit
-reply_short : (s : StoreState) (q : Query) (bytes : List ℕ) → answer_of s q ≡ Ok bytes
-    → length bytes ≤ max_reply
-unfolding answer_of
-reply_short s q bytes e = step s.installed e
-  where
-    limited : (reply : List ℕ) (test : Bool) → nat_le (length reply) max_reply ≡ test
-        → (if test then Ok reply else Err (fault.TooLarge (length reply))) ≡ Ok bytes
-        → length bytes ≤ max_reply
-    limited reply true t f = let same : reply ≡ bytes = cc in
-        subst (λ (b : List ℕ). length b ≤ max_reply) same (leb-true (length reply) max_reply t)
-    limited reply false t f = absurd (cc)
-
-    step : (installed : Option SignedRecord)
-        → option_map_or
-        (λ (r : SignedRecord). within_limit
-        (reply_bytes (honest_reply q r.rec r.signature s.tables))) installed (Err fault.Empty)
-        ≡ Ok bytes → length bytes ≤ max_reply
-    step None f = absurd (cc)
-    step (Some r) f =
-        let reply : List ℕ = reply_bytes (honest_reply q r.rec r.signature s.tables) in
-        limited reply (nat_le (length reply) max_reply) refl f
-
-pub no_version : (s : StoreState) (q : Query) → s.installed ≡ None → answer_of s q ≡ Err fault.Empty
-unfolding answer_of
-no_version s q none =
+pub nothing_installed : (s : StoreState) (at : Option ℕ) (q : Query) → s.installed ≡ None
+    → answer_by s at q ≡ Err fault.Empty
+unfolding answer_of answer_at_of
+nothing_installed s None q none =
     ap (λ (o : Option SignedRecord). option_map_or
     (λ (r : SignedRecord). within_limit (reply_bytes (honest_reply q r.rec r.signature s.tables))) o
     (Err fault.Empty)) none
+nothing_installed s (Some version) q none =
+    ap (λ (o : Option SignedRecord). option_map_or (reply_of_version q version s) o
+    (Err fault.Empty)) none
+
+-- A version by which there is a reply.
+
+-- what is installed where there is a reply by the newest version
+installed_there : (s : StoreState) (q : Query) (bytes : List ℕ) → answer_of s q ≡ Ok bytes
+    → (installed : SignedRecord) × (s.installed ≡ Some installed)
+installed_there s q bytes e = step s.installed refl
+  where
+    step : (o : Option SignedRecord) → s.installed ≡ o
+        → (installed : SignedRecord) × (s.installed ≡ Some installed)
+    step (Some installed) is = (installed, is)
+    step None is = let none = nothing_installed s None q is in absurd (cc)
+
+-- the same by another version, which isn't behind the newest
+kept_there : (s : StoreState) (version : ℕ) (q : Query) (bytes : List ℕ)
+    → answer_at_of s version q ≡ Ok bytes → (installed : SignedRecord)
+    × (s.installed ≡ Some installed) × (version ≤ installed.rec.version)
+unfolding answer_at_of
+kept_there s version q bytes e = step s.installed refl e
+  where
+    none_newer : (old new : Bool) (reply : Result (List ℕ) StoreFault) (why : StoreFault)
+        → (if old && new then reply else Err why) ≡ Ok bytes → new ≡ true
+    none_newer true true reply why f = refl
+    none_newer true false reply why f = absurd (cc)
+    none_newer false new reply why f = absurd (cc)
+
+    step : (o : Option SignedRecord) → s.installed ≡ o
+        → option_map_or (reply_of_version q version s) o (Err fault.Empty) ≡ Ok bytes
+        → (installed : SignedRecord) × (s.installed ≡ Some installed)
+        × (version ≤ installed.rec.version)
+    step None is f = absurd (cc)
+    step (Some r) is f =
+        let oldest : ℕ = oldest_of r.rec.version in (
+          r,
+          is,
+          leb-true version r.rec.version
+              (none_newer (nat_le oldest version) (nat_le version r.rec.version)
+              (reply_by_kept q (kept_at s.earlier r s.tables (version - oldest)))
+              (fault.NoVersion version oldest r.rec.version) f),
+        )
 
 -- The numbers of a query's text have 64 bits with a sign.
 
@@ -180,43 +236,113 @@ query_numbers text q utf8 is =
     (option_map_or comparisons q.condition []) (λ c f. side_fits c.1 f.1)
     (query_fits max_sql_bytes text q (utf8_tokens text utf8) is).tests
 
+-- Plain answers.
+
+-- that clients accept what honest stores answer, by their newest version and by another
+abbrev NewestAccepted : Type 0
+NewestAccepted = (batches : List (List Command)) (s : StoreState) (installed : SignedRecord)
+    (least : ℕ) (q : Query) (bytes : List ℕ) → IsHonestAfter batches s
+    → s.installed ≡ Some installed → FitsQuery q → least ≤ installed.rec.version
+    → answer_of s q ≡ Ok bytes
+    → CheckOf s.key least q bytes
+    (Ok (record { version = installed.rec.version; outcome = result q (tables_after batches) }))
+
+abbrev KeptAccepted : Type 0
+KeptAccepted = (batches : List (List Command)) (s : StoreState) (version least : ℕ) (q : Query)
+    (bytes : List ℕ) → IsHonestAfter batches s → FitsQuery q → least ≤ version
+    → answer_at_of s version q ≡ Ok bytes
+    → CheckOf s.key least q bytes
+    (Ok (record { version = version; outcome = result q (tables_after (take version batches)) }))
+
+installed_version : (key : List ℕ) (batches : List (List Command)) (installed : SignedRecord)
+    → IsRecordOf key batches installed → installed.rec.version ≡ length batches
+unfolding honest_record
+installed_version key batches installed is = ap (λ (r : Record). r.version) is.record_is
+
+-- the version that is asked for is that of its batches
+version_is : (batches : List (List Command)) (s : StoreState) (at : Option ℕ) (q : Query)
+    (bytes : List ℕ) → IsHonestAfter batches s → answer_by s at q ≡ Ok bytes
+    → length (batches_asked at batches) ≡ version_asked at batches
+version_is batches s None q bytes honest e = refl
+version_is batches s (Some version) q bytes honest e =
+    let there = kept_there s version q bytes e in
+    let is : IsRecordOf s.key batches there.0 = subst (IsInstalled s.key batches) there.1
+    honest.installed in
+    omega (
+      arith,
+      length-take version batches,
+      there.2,
+      installed_version s.key batches there.0 is,
+    )
+
+plain_check : NewestAccepted → KeptAccepted → (batches : List (List Command)) (s : StoreState)
+    (at : Option ℕ) (least : ℕ) (q : Query) (bytes : List ℕ) → IsHonestAfter batches s → FitsQuery q
+    → least ≤ version_asked at batches → answer_by s at q ≡ Ok bytes
+    → CheckOf s.key least q bytes (Ok (plain_answer (batches_asked at batches) q))
+plain_check newest kept batches s None least q bytes honest fits recent e =
+    let there = installed_there s q bytes e in
+    let is : IsRecordOf s.key batches there.0 = subst (IsInstalled s.key batches) there.1
+    honest.installed in
+    let version : there.0.rec.version ≡ length batches = installed_version s.key batches there.0
+    is in
+    let check = newest batches s there.0 least q bytes honest there.1 fits
+    (subst (λ (n : ℕ). least ≤ n) (sym version) recent) e in
+    subst (λ (n : ℕ). CheckOf s.key least q bytes
+    (Ok (record { version = n; outcome = result q (tables_after batches) }))) version check
+plain_check newest kept batches s (Some version) least q bytes honest fits recent e =
+    subst (λ (n : ℕ). CheckOf s.key least q bytes
+    (Ok (record { version = n; outcome = result q (tables_after (take version batches)) })))
+    (sym (version_is batches s (Some version) q bytes honest e))
+    (kept batches s version least q bytes honest fits recent e)
+
+same_number : (n m : ℕ) → n ≡ m → (n == m) ≡ true
+same_number n m is = grind (arith, nat_tests)
+
+-- of the version that is asked for just the answer is printed
+printed : (at : Option ℕ) (batches : List (List Command)) (answer : Accepted)
+    → answer.version ≡ version_asked at batches
+    → asked_output at (Ok answer) ≡ check_output (Ok answer)
+printed None batches answer is = refl
+printed (Some version) batches answer is = rw (same_number answer.version version is) refl
+
 -- All of `ask`.
 
-module _ (s : StoreState) (key text : List ℕ) (least : ℕ) (files : Files) (q : Query)
-    (coming : List ℕ) (queue : List (List ℕ)) (output : Output)
-    (asked : IsAsked key text files s q coming) where
+module _ (s : StoreState) (key text : List ℕ) (at : Option ℕ) (least : ℕ) (files : Files)
+    (q : Query) (coming : List ℕ) (queue : List (List ℕ)) (output : Output)
+    (asked : IsAsked key text at files s q coming) where
   abbrev expected_output : Expected
-  expected_output = ask_expected key text least files (Some (coming ∷ queue))
+  expected_output = ask_expected key text at least files (Some (coming ∷ queue))
 
   abbrev by_reply : List (List ℕ) → Expected
-  by_reply connections = with_reply (Some connections) (λ r. Checks s.key least q r)
+  by_reply connections = with_reply (Some connections) (λ r. Checks s.key at least q r)
 
   expected_is : expected_output ≡ OfQuery text
-      (λ x. with_reply (Some (coming ∷ queue)) (λ r. Checks s.key least x r))
+      (λ x. with_reply (Some (coming ∷ queue)) (λ r. Checks s.key at least x r))
   expected_is = key_goes files key s.key asked.key_is asked.is_key
-      (λ k. OfQuery text (λ x. with_reply (Some (coming ∷ queue)) (λ r. Checks k least x r)))
+      (λ k. OfQuery text (λ x. with_reply (Some (coming ∷ queue)) (λ r. Checks k at least x r)))
 
   goes : Allows expected_output output ↔ Allows (by_reply (coming ∷ queue)) output
   goes =
       subst (λ (x : Expected). Allows x output ↔ Allows (by_reply (coming ∷ queue)) output)
       (sym expected_is)
       (query_goes text q output asked.is_text asked.is_query
-      (λ x. with_reply (Some (coming ∷ queue)) (λ r. Checks s.key least x r)))
+      (λ x. with_reply (Some (coming ∷ queue)) (λ r. Checks s.key at least x r)))
 
   -- the answer that comes is this
-  came : (k : FrameKind) (body : List ℕ) → reply_answer (answer_of s q) ≡ (k, body)
+  came : (k : FrameKind) (body : List ℕ) → reply_answer (answer_by s at q) ≡ (k, body)
       → IsTrue (may_come ReplyAwaited k) → IsTrue (is_length k (length body))
-      → by_reply (coming ∷ queue) ≡ with_answer (Whole k body) (λ r. Checks s.key least q r)
+      → by_reply (coming ∷ queue) ≡ with_answer (Whole k body) (λ r. Checks s.key at least q r)
   came k body e may fits =
-      let each = served_answers s (question text) coming asked.served.0 asked.served.1 in
-      let found = each kind.Query text (reply_answer (answer_of s q))
-      (question_is text q asked.is_query) (query_reply s text q asked.is_text asked.is_query) in
+      let each = served_answers s (question at text) coming asked.served.0 asked.served.1 in
+      let found = each (kind_asked at) (body_asked at text) (reply_answer (answer_by s at q))
+      (question_is text at q asked.is_query)
+      (query_reply s text at q asked.is_text asked.is_query asked.is_version) in
       let frame : coming ≡ frame_bytes k body ++ found.0 = found.1
       ∙ ap (λ (a : KindAndBody). frame_bytes a.0 a.1 ++ found.0) e in
       ap (λ (bytes : List ℕ). by_reply (bytes ∷ queue)) frame
-      ∙ frame_goes k body found.0 queue may fits (λ r. Checks s.key least q r)
+      ∙ frame_goes k body found.0 queue may fits (λ r. Checks s.key at least q r)
 
-  pub refused : (why : StoreFault) → answer_of s q ≡ Err why
+  pub refused : (why : StoreFault) → answer_by s at q ≡ Err why
       → Allows expected_output output ↔ (output ≡ store_refusal (code_of why))
   refused why e =
       let is = came kind.Refusal (code_of why ∷ []) (ap reply_answer e) refl refl in
@@ -226,57 +352,29 @@ module _ (s : StoreState) (key text : List ℕ) (least : ℕ) (files : Files) (q
       (λ h. h, λ h. h) in
       (λ h. after.0 (goes.0 h), λ h. goes.1 (after.1 h))
 
-  pub accepted : (bytes : List ℕ) (answer : Accepted) → answer_of s q ≡ Ok bytes
+  accepted : (bytes : List ℕ) (answer : Accepted) → answer_by s at q ≡ Ok bytes
       → CheckOf s.key least q bytes (Ok answer) → Allows expected_output output ↔
-      (output ≡ check_output (Ok answer))
+      (output ≡ asked_output at (Ok answer))
   accepted bytes answer e check =
       let fits : IsTrue (is_length kind.Reply (length bytes)) = le-leb (length bytes) max_reply
-      (reply_short s q bytes e) in
+      (reply_within s at q bytes e) in
       let is = came kind.Reply bytes (ap reply_answer e) refl fits in
-      let after : Allows (by_reply (coming ∷ queue)) output ↔ (output ≡ check_output (Ok answer)) =
-      subst (λ (x : Expected). Allows x output ↔ (output ≡ check_output (Ok answer))) (sym is)
+      let after : Allows (by_reply (coming ∷ queue)) output ↔ (output ≡ asked_output at (Ok answer)) =
+      subst (λ (x : Expected). Allows x output ↔ (output ≡ asked_output at (Ok answer))) (sym is)
       (to, λ h. (Ok answer, check, h)) in
       (λ h. after.0 (goes.0 h), λ h. goes.1 (after.1 h))
     where
-      to : Allows (Checks s.key least q bytes) output → output ≡ check_output (Ok answer)
+      to : Allows (Checks s.key at least q bytes) output → output ≡ asked_output at (Ok answer)
       to told = told.2
-          ∙ ap check_output (one_check s.key least q bytes told.0 (Ok answer) told.1 check)
+          ∙ ap (asked_output at) (one_check s.key least q bytes told.0 (Ok answer) told.1 check)
 
-  -- what is installed where there is a reply
-  installed_there : (bytes : List ℕ) → answer_of s q ≡ Ok bytes
-      → (installed : SignedRecord) × (s.installed ≡ Some installed)
-  installed_there bytes e = step s.installed refl
-    where
-      step : (o : Option SignedRecord) → s.installed ≡ o
-          → (installed : SignedRecord) × (s.installed ≡ Some installed)
-      step (Some installed) is = (installed, is)
-      step None is = let none = no_version s q is in absurd (cc)
-
-  -- that clients accept what honest stores answer
-  abbrev AreAccepted : Type 0
-  AreAccepted = (batches : List (List Command)) (t : StoreState) (installed : SignedRecord)
-      (old : ℕ) (x : Query) (bytes : List ℕ) → IsHonestAfter batches t
-      → t.installed ≡ Some installed → FitsQuery x → old ≤ installed.rec.version
-      → answer_of t x ≡ Ok bytes
-      → CheckOf t.key old x bytes
-      (Ok (record {
-        version = installed.rec.version;
-        outcome = result x (tables_after batches);
-      }))
-
-  pub answered : AreAccepted → (batches : List (List Command)) (bytes : List ℕ)
-      → IsHonestAfter batches s → least ≤ length batches → answer_of s q ≡ Ok bytes
-      → Allows expected_output output ↔ (output ≡ check_output (Ok (plain_answer batches q)))
-  unfolding honest_record
-  answered law batches bytes honest recent e =
-      let there = installed_there bytes e in
-      let is : IsRecordOf s.key batches there.0 = subst (IsInstalled s.key batches) there.1
-      honest.installed in
-      let version : there.0.rec.version ≡ length batches = ap (λ (r : Record). r.version)
-      is.record_is in
+  pub answered : NewestAccepted → KeptAccepted → (batches : List (List Command)) (bytes : List ℕ)
+      → IsHonestAfter batches s → least ≤ version_asked at batches → answer_by s at q ≡ Ok bytes
+      → Allows expected_output output ↔
+      (output ≡ check_output (Ok (plain_answer (batches_asked at batches) q)))
+  answered newest kept batches bytes honest recent e =
+      let answer : Accepted = plain_answer (batches_asked at batches) q in
       let fits : FitsQuery q = query_numbers text q asked.is_text asked.is_query in
-      let check = law batches s there.0 least q bytes honest there.1 fits
-      (subst (λ (n : ℕ). least ≤ n) (sym version) recent) e in
-      accepted bytes (plain_answer batches q) e
-      (subst (λ (n : ℕ). CheckOf s.key least q bytes
-      (Ok (record { version = n; outcome = result q (tables_after batches) }))) version check)
+      subst (λ (o : Output). Allows expected_output output ↔ (output ≡ o))
+      (printed at batches answer (version_is batches s at q bytes honest e))
+      (accepted bytes answer e (plain_check newest kept batches s at least q bytes honest fits recent e))

@@ -1,6 +1,6 @@
 -- A store that serves a connection answers each request that is put on it.
 use Rattle.std.proofs.Common.{◌≡◌, ℕ, zero, suc, ◌+◌, ◌≤◌, List, [], ◌∷◌, ◌++◌, length, drop, Option, Some, append-nil, append_assoc, refl, sym, ap, ◌∙◌, arith, lit≤}
-use Rattle.std.specs.Prelude.{IsTrue}
+use Rattle.std.specs.Prelude.{◌<◌, ◌^◌, IfSome, IsTrue}
 use Rattle.std.specs.Str.{IsUtf8}
 use Rattle.std.proofs.lemmas.List.{drop_at}
 use Rattle.outside.specs.Shelf.{Files}
@@ -110,17 +110,18 @@ pub one_frame : 1 ≤ max_turns
 unfolding max_turns
 one_frame = lit≤ tt
 
-pub some_question : (s : StoreState) (key text : List ℕ) (files : Files) (q : Query) → files key ≡ Some s.key
-    → IsTrue (is_public_key s.key) → IsUtf8 text → IsQueryText text q
-    → (coming : List ℕ) × IsAsked key text files s q coming
-some_question s key text files q known is_key utf8 query =
-    let served = some_answers s (question text) one_frame in (
+pub some_question : (s : StoreState) (key text : List ℕ) (at : Option ℕ) (files : Files) (q : Query)
+    → files key ≡ Some s.key → IsTrue (is_public_key s.key) → IsUtf8 text → IsQueryText text q
+    → IfSome at (λ version. version < 2 ^ 64) → (coming : List ℕ) × IsAsked key text at files s q coming
+some_question s key text at files q known is_key utf8 query fits =
+    let served = some_answers s (question at text) one_frame in (
       served.0,
       record {
         key_is = known;
         is_key = is_key;
         is_text = utf8;
         is_query = query;
+        is_version = fits;
         served = (served.1, served.2);
       },
     )

@@ -1,6 +1,6 @@
 //! What `ask` prints of an honest store's answer.
 
-ghost use Rattle.std.specs.Prelude.{◌≡◌, ◌↔◌, ℕ, ◌≤◌, List, ◌∷◌, drop, length, Some, None, Result, Ok, Err};
+ghost use Rattle.std.specs.Prelude.{◌≡◌, ◌↔◌, ℕ, ◌≤◌, List, ◌∷◌, drop, Option, Some, None, Result, Ok, Err};
 ghost use Rattle.outside.specs.Shelf.{Files};
 ghost use Rattle.outside.specs.Outputs.{Output};
 ghost use Rattle.vo_spec.specs.declared.checks.Answer.{Answer};
@@ -12,14 +12,14 @@ ghost use Rattle.vo_spec.specs.Conditions.{Query};
 ghost use Rattle.vo_spec.specs.Journals.{IsJournal, batches_of};
 ghost use Rattle.vo_spec.specs.Owners.{AreLoadable};
 ghost use Rattle.round_trips.specs.Trips.{plain_answer};
-ghost use Rattle.vo_store.specs.declared.fault.StoreFault.TheVariants.{TooLarge};
-ghost use Rattle.vo_store.specs.Calls.{answer_of};
+ghost use Rattle.vo_store.specs.declared.fault.StoreFault.TheVariants.{NoVersion, TooLarge};
 ghost use Rattle.vo_store.specs.HonestStores.{IsHonestAfter};
 ghost use Rattle.vo_store.specs.Loading.{store_behind};
 ghost use Rattle.vo_store.specs.StoreState.{StoreState};
+ghost use Rattle.vo_wire.specs.Answering.{answer_by};
 ghost use Rattle.vo_commands.specs.Expected.{Allows, ask_expected};
 ghost use Rattle.vo_commands.specs.Lines.{check_output, store_refusal};
-ghost use Rattle.honest_peers.specs.Asking.{IsAsked};
+ghost use Rattle.honest_peers.specs.Asking.{IsAsked, batches_asked, version_asked};
 
 use vo_store::laws::answers_are_accepted;
 
@@ -37,25 +37,32 @@ pub fn loaded_stores_are_honest()
 {}
 
 /// Where an honest store answers, `ask` prints the query's result on the plain tables after the
-/// store's batches, and nothing else; where the store has no version, or its reply is too large,
-/// `ask` says so.
+/// store's batches, or after the batches of the version that it asks for, and nothing else; where
+/// the store has no version, or doesn't keep that one, or its reply is too large, `ask` says so.
 pub fn questions_are_answered()
     ensures result { (batches : List (List Command)) (s : StoreState) (key text : List ℕ)
-        (least : ℕ) (files : Files) (q : Query) (coming bytes : List ℕ) (queue : List (List ℕ))
-        (output : Output) → IsHonestAfter batches s → IsAsked key text files s q coming
-        → least ≤ length batches → answer_of s q ≡ Ok bytes
-        → Allows (ask_expected key text least files (Some (coming ∷ queue))) output
-        ↔ (output ≡ check_output (Ok (plain_answer batches q))) }
-    ensures too_large { (s : StoreState) (key text : List ℕ) (least size : ℕ) (files : Files)
-        (q : Query) (coming : List ℕ) (queue : List (List ℕ)) (output : Output)
-        → IsAsked key text files s q coming → answer_of s q ≡ Err (TooLarge size)
-        → Allows (ask_expected key text least files (Some (coming ∷ queue))) output
+        (at : Option ℕ) (least : ℕ) (files : Files) (q : Query) (coming bytes : List ℕ)
+        (queue : List (List ℕ)) (output : Output) → IsHonestAfter batches s
+        → IsAsked key text at files s q coming → least ≤ version_asked at batches
+        → answer_by s at q ≡ Ok bytes
+        → Allows (ask_expected key text at least files (Some (coming ∷ queue))) output
+        ↔ (output ≡ check_output (Ok (plain_answer (batches_asked at batches) q))) }
+    ensures too_large { (s : StoreState) (key text : List ℕ) (at : Option ℕ) (least size : ℕ)
+        (files : Files) (q : Query) (coming : List ℕ) (queue : List (List ℕ)) (output : Output)
+        → IsAsked key text at files s q coming → answer_by s at q ≡ Err (TooLarge size)
+        → Allows (ask_expected key text at least files (Some (coming ∷ queue))) output
         ↔ (output ≡ store_refusal 3) }
-    ensures empty { (s : StoreState) (key text : List ℕ) (least : ℕ) (files : Files) (q : Query)
-        (coming : List ℕ) (queue : List (List ℕ)) (output : Output)
-        → IsAsked key text files s q coming → s.installed ≡ None
-        → Allows (ask_expected key text least files (Some (coming ∷ queue))) output
+    ensures empty { (s : StoreState) (key text : List ℕ) (at : Option ℕ) (least : ℕ)
+        (files : Files) (q : Query) (coming : List ℕ) (queue : List (List ℕ)) (output : Output)
+        → IsAsked key text at files s q coming → s.installed ≡ None
+        → Allows (ask_expected key text at least files (Some (coming ∷ queue))) output
         ↔ (output ≡ store_refusal 2) }
+    ensures no_version { (s : StoreState) (key text : List ℕ) (at : Option ℕ)
+        (least version oldest newest : ℕ) (files : Files) (q : Query) (coming : List ℕ)
+        (queue : List (List ℕ)) (output : Output) → IsAsked key text at files s q coming
+        → answer_by s at q ≡ Err (NoVersion version oldest newest)
+        → Allows (ask_expected key text at least files (Some (coming ∷ queue))) output
+        ↔ (output ≡ store_refusal 7) }
 {
     answers_are_accepted();
 }

@@ -1,6 +1,6 @@
 //! That what the laws of honest stores ask of a connection can be.
 
-ghost use Rattle.std.specs.Prelude.{◌≡◌, ℕ, ◌≤◌, List, Some, IsSome, IsTrue};
+ghost use Rattle.std.specs.Prelude.{◌≡◌, ℕ, ◌<◌, ◌≤◌, ◌^◌, List, Option, Some, IfSome, IsSome, IsTrue};
 ghost use Rattle.std.specs.Str.{IsUtf8};
 ghost use Rattle.outside.specs.Shelf.{Files};
 ghost use Rattle.link_frames.specs.Scripts.{Event};
@@ -23,14 +23,15 @@ ghost use Rattle.honest_peers.specs.Serving.{IsIdle};
 
 /// However a store stands: for any frames that are put, no more than a connection may have, there
 /// are bytes to come that are its answers to them, and so there are for each query that is asked
-/// with its key. Of a session, whose frames go by what comes, `sessions_are_served` tells.
+/// with its key, also of a version. Of a session, whose frames go by what comes, `sessions_are_served` tells.
 pub fn connections_are_served()
     ensures frames { (s : StoreState) (events : List (Event (Deed Held Batch Entry)))
         → frames_put events ≤ max_turns
         → (coming : List ℕ) × (later : StoreState) × AreServed s events coming later }
-    ensures asked { (s : StoreState) (key text : List ℕ) (files : Files) (q : Query)
+    ensures asked { (s : StoreState) (key text : List ℕ) (at : Option ℕ) (files : Files) (q : Query)
         → files key ≡ Some s.key → IsTrue (is_public_key s.key) → IsUtf8 text → IsQueryText text q
-        → (coming : List ℕ) × IsAsked key text files s q coming }
+        → IfSome at (λ version. version < 2 ^ 64)
+        → (coming : List ℕ) × IsAsked key text at files s q coming }
 {}
 
 /// A store that has loaded an owner's plain journal stands behind the batches of that owner; and
