@@ -1,6 +1,6 @@
 -- What `ask` comes to, step by step: the key, the query, the frame that comes, and its check.
-use Rattle.std.proofs.Common.{◌≡◌, ℕ, ◌+◌, ◌-◌, ◌<◌, ◌≤◌, ◌^◌, Bool, true, false, List, [], ◌∷◌, ◌++◌, length, take, Option, Some, None, Result, Ok, Err, refl, sym, ap, ◌∙◌, subst, inl, inr, arith, leb-true, le-leb, eqb-true, length-append}
-use Rattle.std.specs.Prelude.{◌↔◌, ◌==◌, ◌&&◌, IfSome, IsTrue, nat_lt, nat_le, is_some, option_map, if◌then◌else◌}
+use Rattle.std.proofs.Common.{◌≡◌, ℕ, ◌+◌, ◌-◌, ◌<◌, ◌≤◌, ◌^◌, Bool, true, false, List, [], ◌∷◌, ◌++◌, length, take, Option, Some, None, ◌⊎◌, Result, Ok, Err, refl, sym, ap, ◌∙◌, subst, inl, inr, arith, leb-true, le-leb, eqb-true, length-append}
+use Rattle.std.specs.Prelude.{◌↔◌, ◌==◌, ◌&&◌, IfSome, IsTrue, nat_lt, nat_le, option_map, if◌then◌else◌}
 use Rattle.std.proofs.lemmas.List.{length-take}
 use Rattle.std.specs.Option.{option_map_or}
 use Rattle.std.specs.Str.{IsUtf8}
@@ -33,7 +33,7 @@ use Rattle.sql_text.proofs.Made.{all_mapped}
 use Rattle.sql_text.proofs.QueryFits.{query_fits}
 use Rattle.sql_text.proofs.TokenEnds.{utf8_tokens}
 use Rattle.round_trips.specs.Trips.{plain_answer}
-use Rattle.vo_spec.specs.Honest.{honest_record, honest_reply}
+use Rattle.vo_spec.specs.Honest.{honest_record, honest_reply, honest_trees}
 use Rattle.vo_spec.specs.declared.signatures.Levels.TheVariants.{One, Two}
 use Rattle.vo_spec.specs.Keys.{names_sets, is_key_by, is_public_key}
 use Rattle.vo_spec.specs.Replies.{max_reply, reply_bytes}
@@ -47,7 +47,7 @@ use Rattle.vo_store.specs.declared.fault.StoreFault.{StoreFault}
 use Rattle.vo_store.specs.declared.fault.StoreFault.TheVariants as fault
 use Rattle.vo_store.specs.declared.signed_record.SignedRecord.{SignedRecord}
 use Rattle.vo_store.specs.Calls.{answer_of, answer_at_of, kept_at, reply_by_kept, reply_of_version, within_limit}
-use Rattle.vo_store.specs.HonestStores.{IsHonestAfter, IsInstalled, IsRecordOf}
+use Rattle.vo_store.specs.HonestStores.{IsAnswerBy, IsHonestAfter, IsInstalled, IsRecordOf}
 use Rattle.vo_store.specs.StoreState.{StoreState, oldest_of}
 use Rattle.vo_wire.specs.Answering.{KindAndBody, answer_by, code_of, query_answer, query_at_answer, reply_answer, reply_to}
 use Rattle.vo_wire.proofs.AnswerLaws.{reply_within}
@@ -254,6 +254,13 @@ KeptAccepted = (batches : List (List Command)) (s : StoreState) (version least :
     → CheckOf s.key least q bytes
     (Ok (record { version = version; outcome = result q (tables_after (take version batches)) }))
 
+-- that they answer by each version that they keep
+abbrev AreThere : Type 0
+AreThere = (batches : List (List Command)) (s : StoreState) (installed : SignedRecord)
+    (version : ℕ) (q : Query) → IsHonestAfter batches s → s.installed ≡ Some installed
+    → oldest_of installed.rec.version ≤ version → version ≤ installed.rec.version
+    → IsAnswerBy s.key (take version batches) q (answer_at_of s version q)
+
 installed_version : (key : List ℕ) (batches : List (List Command)) (installed : SignedRecord)
     → IsRecordOf key batches installed → installed.rec.version ≡ length batches
 unfolding honest_record
@@ -378,3 +385,46 @@ module _ (s : StoreState) (key text : List ℕ) (at : Option ℕ) (least : ℕ) 
       subst (λ (o : Output). Allows expected_output output ↔ (output ≡ o))
       (printed at batches answer (version_is batches s at q bytes honest e))
       (accepted bytes answer e (plain_check newest kept batches s at least q bytes honest fits recent e))
+
+-- A version that is kept.
+
+reply_or_too_large : (bytes : List ℕ) (answer : Result (List ℕ) StoreFault)
+    → answer ≡ within_limit bytes → ((reply : List ℕ) × (answer ≡ Ok reply))
+    ⊎ ((size : ℕ) × (answer ≡ Err (fault.TooLarge size)))
+reply_or_too_large bytes answer is = by_test (nat_le (length bytes) max_reply) is
+  where
+    by_test : (test : Bool)
+        → answer ≡ (if test then Ok bytes else Err (fault.TooLarge (length bytes)))
+        → ((reply : List ℕ) × (answer ≡ Ok reply))
+        ⊎ ((size : ℕ) × (answer ≡ Err (fault.TooLarge size)))
+    by_test true e = inl (bytes, e)
+    by_test false e = inr (length bytes, e)
+
+pub answered_at : NewestAccepted → KeptAccepted → AreThere → (batches : List (List Command))
+    (s : StoreState) (installed : SignedRecord) (key text : List ℕ) (version least : ℕ)
+    (files : Files) (q : Query) (coming : List ℕ) (queue : List (List ℕ)) (output : Output)
+    → IsHonestAfter batches s → s.installed ≡ Some installed
+    → IsAsked key text (Some version) files s q coming
+    → oldest_of installed.rec.version ≤ version → version ≤ installed.rec.version → least ≤ version
+    → Allows (ask_expected key text (Some version) least files (Some (coming ∷ queue))) output
+    → (output ≡ check_output (Ok (plain_answer (take version batches) q)))
+    ⊎ (output ≡ store_refusal 3)
+answered_at newest kept there batches s installed key text version least files q coming queue output
+    honest is asked old new recent allows =
+    by_answer (reply_or_too_large
+    (reply_bytes (honest_reply q by.0.rec by.0.signature (honest_trees (take version batches))))
+    (answer_at_of s version q) by.2)
+  where
+    by : IsAnswerBy s.key (take version batches) q (answer_at_of s version q)
+    by = there batches s installed version q honest is old new
+
+    by_answer : ((reply : List ℕ) × (answer_at_of s version q ≡ Ok reply))
+        ⊎ ((size : ℕ) × (answer_at_of s version q ≡ Err (fault.TooLarge size)))
+        → (output ≡ check_output (Ok (plain_answer (take version batches) q)))
+        ⊎ (output ≡ store_refusal 3)
+    by_answer (inl found) = inl
+        ((answered s key text (Some version) least files q coming queue output asked newest kept
+        batches found.0 honest recent found.1).0 allows)
+    by_answer (inr large) = inr
+        ((refused s key text (Some version) least files q coming queue output asked
+        (fault.TooLarge large.0) large.1).0 allows)

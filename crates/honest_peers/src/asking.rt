@@ -1,6 +1,6 @@
 //! What `ask` prints of an honest store's answer.
 
-ghost use Rattle.std.specs.Prelude.{◌≡◌, ◌↔◌, ℕ, ◌≤◌, List, ◌∷◌, drop, Option, Some, None, Result, Ok, Err};
+ghost use Rattle.std.specs.Prelude.{◌≡◌, ◌↔◌, ◌⊎◌, ℕ, ◌≤◌, List, ◌∷◌, drop, take, Option, Some, None, Result, Ok, Err};
 ghost use Rattle.outside.specs.Shelf.{Files};
 ghost use Rattle.outside.specs.Outputs.{Output};
 ghost use Rattle.vo_spec.specs.declared.checks.Answer.{Answer};
@@ -15,7 +15,8 @@ ghost use Rattle.round_trips.specs.Trips.{plain_answer};
 ghost use Rattle.vo_store.specs.declared.fault.StoreFault.TheVariants.{NoVersion, TooLarge};
 ghost use Rattle.vo_store.specs.HonestStores.{IsHonestAfter};
 ghost use Rattle.vo_store.specs.Loading.{store_behind};
-ghost use Rattle.vo_store.specs.StoreState.{StoreState};
+ghost use Rattle.vo_store.specs.declared.signed_record.SignedRecord.{SignedRecord};
+ghost use Rattle.vo_store.specs.StoreState.{StoreState, oldest_of};
 ghost use Rattle.vo_wire.specs.Answering.{answer_by};
 ghost use Rattle.vo_commands.specs.Expected.{Allows, ask_expected};
 ghost use Rattle.vo_commands.specs.Lines.{check_output, store_refusal};
@@ -38,7 +39,8 @@ pub fn loaded_stores_are_honest()
 
 /// Where an honest store answers, `ask` prints the query's result on the plain tables after the
 /// store's batches, or after the batches of the version that it asks for, and nothing else; where
-/// the store has no version, or doesn't keep that one, or its reply is too large, `ask` says so.
+/// the store has no version, or doesn't keep that one, or its reply is too large, `ask` says so. Of
+/// a version that it keeps there is the result, unless the reply is too large.
 pub fn questions_are_answered()
     ensures result { (batches : List (List Command)) (s : StoreState) (key text : List ℕ)
         (at : Option ℕ) (least : ℕ) (files : Files) (q : Query) (coming bytes : List ℕ)
@@ -47,6 +49,15 @@ pub fn questions_are_answered()
         → answer_by s at q ≡ Ok bytes
         → Allows (ask_expected key text at least files (Some (coming ∷ queue))) output
         ↔ (output ≡ check_output (Ok (plain_answer (batches_asked at batches) q))) }
+    ensures kept { (batches : List (List Command)) (s : StoreState) (installed : SignedRecord)
+        (key text : List ℕ) (version least : ℕ) (files : Files) (q : Query) (coming : List ℕ)
+        (queue : List (List ℕ)) (output : Output) → IsHonestAfter batches s
+        → s.installed ≡ Some installed → IsAsked key text (Some version) files s q coming
+        → oldest_of installed.rec.version ≤ version → version ≤ installed.rec.version
+        → least ≤ version
+        → Allows (ask_expected key text (Some version) least files (Some (coming ∷ queue))) output
+        → (output ≡ check_output (Ok (plain_answer (take version batches) q)))
+        ⊎ (output ≡ store_refusal 3) }
     ensures too_large { (s : StoreState) (key text : List ℕ) (at : Option ℕ) (least size : ℕ)
         (files : Files) (q : Query) (coming : List ℕ) (queue : List (List ℕ)) (output : Output)
         → IsAsked key text at files s q coming → answer_by s at q ≡ Err (TooLarge size)
