@@ -1,2 +1,3 @@
 pub mod ParseLaws
 pub mod Folds
+pub mod StepCounts

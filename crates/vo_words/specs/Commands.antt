@@ -33,7 +33,8 @@ own_app = command_of (codes "own")
 
 abbrev pub answer_app : App
 answer_app = command_of (codes "answer")
-    (word_rule (codes "key") ∷ word_rule (codes "journal") ∷ word_rule (codes "query") ∷ [])
+    (word_rule (codes "key") ∷ word_rule (codes "journal") ∷ word_rule (codes "query")
+    ∷ option_rule (codes "at") ∷ [])
 
 abbrev pub serve_app : App
 serve_app = command_of (codes "serve")
@@ -48,7 +49,7 @@ check_app = command_of (codes "check")
 abbrev pub ask_app : App
 ask_app = command_of (codes "ask")
     (word_rule (codes "address") ∷ word_rule (codes "key") ∷ word_rule (codes "query")
-    ∷ option_rule (codes "least") ∷ [])
+    ∷ option_rule (codes "at") ∷ option_rule (codes "least") ∷ [])
 
 abbrev pub audit_app : App
 audit_app = command_of (codes "audit")
@@ -59,6 +60,9 @@ abbrev pub meet_app : App
 meet_app = command_of (codes "meet")
     (word_rule (codes "key") ∷ word_rule (codes "query") ∷ word_rule (codes "first")
     ∷ word_rule (codes "second") ∷ [])
+
+abbrev pub gen_app : App
+gen_app = command_of (codes "gen") (word_rule (codes "steps") ∷ word_rule (codes "number") ∷ [])
 
 -- a command line of which a command must be used
 abbrev pub empty_app : App
@@ -82,4 +86,4 @@ with_client program =
     meet_app
 
 abbrev pub program_app : App
-program_app = with_client (with_store (with_owner empty_app))
+program_app = with_command (with_client (with_store (with_owner empty_app))) gen_app

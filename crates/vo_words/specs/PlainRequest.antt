@@ -1,5 +1,5 @@
 -- What words ask for, as contracts see it.
-use Rattle.std.specs.Prelude.{ℕ, ◌^◌, ◌&&◌, nat_le, nat_lt, List, [], ◌∷◌, Option, Some, None, option_map, option_and_then, codes, if◌then◌else◌}
+use Rattle.std.specs.Prelude.{ℕ, ◌≤◌, ◌^◌, ◌&&◌, nat_le, nat_lt, List, [], ◌∷◌, Option, Some, None, option_map, option_and_then, codes, if◌then◌else◌}
 use Rattle.std.specs.Option.{option_map_or}
 use Rattle.std.specs.Str.{bytes_eq}
 use Rattle.clap.specs.Words.{Row, Text, first_of, fault_of, subcommand_of}
@@ -13,13 +13,14 @@ pub data PlainRequest : Type 0 where
   Keygen : (seed : Text) (shape : PlainShape) → PlainRequest
   Seal : (seed script : Text) (shape : PlainShape) → PlainRequest
   Own : (seed address script : Text) (shape : PlainShape) → PlainRequest
-  Answer : (key journal query : Text) → PlainRequest
+  Answer : (key journal query : Text) (at : Option ℕ) → PlainRequest
   Serve : (address key journal : Text) (count : ℕ) → PlainRequest
   Check : (key query reply : Text) (least : ℕ) → PlainRequest
-  Ask : (address key query : Text) (least : ℕ) → PlainRequest
+  Ask : (address key query : Text) (at : Option ℕ) (least : ℕ) → PlainRequest
   Audit : (key journal query reply : Text) → PlainRequest
   Explain : (key journal query reply seed : Text) (shape : PlainShape) → PlainRequest
   Meet : (key query first second : Text) → PlainRequest
+  Generate : (steps number : ℕ) → PlainRequest
 
 -- a height is 5 or 10, in digits
 abbrev pub written_height : Text → Option ℕ
@@ -50,6 +51,20 @@ given_shape rows = option_and_then
 abbrev pub given_least : List Row → Option ℕ
 given_least rows = option_map_or written_number (first_of (codes "least") rows) (Some 0)
 
+-- the version that is asked for, where one is given
+abbrev pub given_at : List Row → Option (Option ℕ)
+given_at rows = option_map_or (λ text. option_map Some (written_number text))
+    (first_of (codes "at") rows) (Some None)
+
+-- how many steps a workload has: at least one, and at most this many
+abbrev pub max_steps : ℕ
+max_steps = 100000
+
+abbrev pub step_count : Text → Option ℕ
+step_count text = option_and_then
+    (λ count. if nat_le 1 count && nat_le count max_steps then Some count else None)
+    (written_number text)
+
 -- how many connections are served: at least one, and fewer than 2 ^ 32
 abbrev pub connection_count : Text → Option ℕ
 connection_count text = option_and_then
@@ -78,7 +93,8 @@ own_request rows =
 abbrev pub answer_request : List Row → Option PlainRequest
 answer_request rows =
     with_word (codes "key") rows (λ key. with_word (codes "journal") rows (λ journal.
-    with_word (codes "query") rows (λ query. Some (Answer key journal query))))
+    with_word (codes "query") rows (λ query.
+    option_map (Answer key journal query) (given_at rows))))
 
 abbrev pub serve_request : List Row → Option PlainRequest
 serve_request rows =
@@ -94,8 +110,8 @@ check_request rows = with_word (codes "key") rows (λ key. with_word (codes "que
 abbrev pub ask_request : List Row → Option PlainRequest
 ask_request rows =
     with_word (codes "address") rows (λ address. with_word (codes "key") rows (λ key.
-    with_word (codes "query") rows (λ query. option_map (Ask address key query)
-    (given_least rows))))
+    with_word (codes "query") rows (λ query. option_and_then
+    (λ at. option_map (Ask address key query at) (given_least rows)) (given_at rows))))
 
 -- an audit, or where a seed is given, the key owner's
 abbrev pub audit_by : (key journal query reply : Text) → Option Text → PlainShape → PlainRequest
@@ -114,6 +130,17 @@ meet_request rows = with_word (codes "key") rows (λ key. with_word (codes "quer
     with_word (codes "first") rows (λ first. with_word (codes "second") rows (λ second.
     Some (Meet key query first second)))))
 
+abbrev pub generate_request : List Row → Option PlainRequest
+generate_request rows =
+    with_word (codes "steps") rows (λ steps. with_word (codes "number") rows (λ number.
+    option_and_then (λ count. option_map (Generate count) (written_number number))
+    (step_count steps)))
+
+-- a workload has steps, and not too many
+abbrev pub HasSteps : PlainRequest → Type 0
+HasSteps (Generate steps number) = (1 ≤ steps) × (steps ≤ max_steps)
+HasSteps _ = Unit {0}
+
 -- what a command about a query and its replies asks for
 unfoldable pub reply_request : Text → List Row → Option PlainRequest
 reply_request name rows =
@@ -129,7 +156,8 @@ unfoldable pub command_request : Text → List Row → Option PlainRequest
 command_request name rows =
     if bytes_eq name (codes "keygen") then keygen_request rows
     else (if bytes_eq name (codes "seal") then seal_request rows
-    else reply_request name rows)
+    else (if bytes_eq name (codes "gen") then generate_request rows
+    else reply_request name rows))
 
 -- what a command asks for, by its name and its words
 abbrev pub named_request : Text → List Row → Option PlainRequest

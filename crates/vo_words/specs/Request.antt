@@ -3,7 +3,7 @@ use Rattle.vo_words.specs.PlainRequest.{PlainRequest}
 use Rattle.vo_words.specs.PlainRequest as is
 use Rattle.vo_words.specs.Shapes.{plain_shape}
 use Rattle.vo_words.specs.declared.request.Command.{Command}
-use Rattle.vo_words.specs.declared.request.Command.TheVariants.{Keygen, Seal, Answer, Check, Ask, Audit, Explain, Meet}
+use Rattle.vo_words.specs.declared.request.Command.TheVariants.{Keygen, Seal, Answer, Check, Ask, Audit, Explain, Meet, Generate}
 use Rattle.vo_words.specs.declared.request.Commitment.{Commitment}
 use Rattle.vo_words.specs.declared.request.OwnerAudit.{OwnerAudit}
 use Rattle.vo_words.specs.declared.request.Service.{Service}
@@ -17,12 +17,14 @@ plain_owner_audit audit = is.Explain audit.key.now audit.journal.now audit.query
 abbrev pub plain_command : Command → PlainRequest
 plain_command (Keygen seed shape) = is.Keygen seed.now (plain_shape shape)
 plain_command (Seal seed script shape) = is.Seal seed.now script.now (plain_shape shape)
-plain_command (Answer key journal query) = is.Answer key.now journal.now query.now
+plain_command (Answer key journal query at) = is.Answer key.now journal.now query.now at
 plain_command (Check key query reply least) = is.Check key.now query.now reply.now least
-plain_command (Ask address key query least) = is.Ask address.now key.now query.now least
+plain_command (Ask address key query at least) =
+    is.Ask address.now key.now query.now at least
 plain_command (Audit key journal query reply) = is.Audit key.now journal.now query.now reply.now
 plain_command (Explain audit) = plain_owner_audit audit
 plain_command (Meet key query first second) = is.Meet key.now query.now first.now second.now
+plain_command (Generate steps number) = is.Generate steps number
 
 abbrev pub plain_service : Service → PlainRequest
 plain_service service =

@@ -25,7 +25,7 @@ enum Argument<'a> {
 
 use Argument::{Named, Word};
 
-const FORMS: [Form<'static>; 9] = [
+const FORMS: [Form<'static>; 10] = [
     Form {
         name: "keygen",
         takes: &[Word("seed"), Named("height"), Named("levels")],
@@ -51,7 +51,7 @@ const FORMS: [Form<'static>; 9] = [
     },
     Form {
         name: "answer",
-        takes: &[Word("key"), Word("journal"), Word("query")],
+        takes: &[Word("key"), Word("journal"), Word("query"), Named("at")],
     },
     Form {
         name: "serve",
@@ -63,7 +63,13 @@ const FORMS: [Form<'static>; 9] = [
     },
     Form {
         name: "ask",
-        takes: &[Word("address"), Word("key"), Word("query"), Named("least")],
+        takes: &[
+            Word("address"),
+            Word("key"),
+            Word("query"),
+            Named("at"),
+            Named("least"),
+        ],
     },
     Form {
         name: "audit",
@@ -80,6 +86,10 @@ const FORMS: [Form<'static>; 9] = [
     Form {
         name: "meet",
         takes: &[Word("key"), Word("query"), Word("first"), Word("second")],
+    },
+    Form {
+        name: "gen",
+        takes: &[Word("steps"), Word("number")],
     },
 ];
 

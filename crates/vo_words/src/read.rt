@@ -1,7 +1,7 @@
 //! The words, read by the commands.
-ghost use Rattle.std.specs.Prelude.{◌≡◌, map, option_map, string_bytes, IfOk, IsTrue, ◌↔◌};
+ghost use Rattle.std.specs.Prelude.{◌≡◌, map, option_map, string_bytes, IfOk, IfSome, IsTrue, ◌↔◌};
 ghost use Rattle.clap.specs.Words.{kind_of, found_of, rows_of, first_of, subcommand_rows_of};
-ghost use Rattle.vo_words.specs.PlainRequest.{request_in, used_request, command_request, keygen_request, seal_request, answer_request, check_request, audit_request, meet_request, own_request, reply_request, serve_request, ask_request, connection_count, given_shape, given_height, given_levels, given_least, written_height, written_levels};
+ghost use Rattle.vo_words.specs.PlainRequest.{request_in, used_request, command_request, keygen_request, seal_request, answer_request, check_request, audit_request, meet_request, own_request, reply_request, serve_request, ask_request, generate_request, connection_count, step_count, HasSteps, given_at, given_shape, given_height, given_levels, given_least, written_height, written_levels};
 ghost use Rattle.vo_words.specs.Shapes.{height_number, levels_number, plain_shape};
 ghost use Rattle.vo_words.specs.Request.{plain_command, plain_commitment, plain_request, plain_service};
 
@@ -12,11 +12,15 @@ use clap::error::ErrorKind;
 use clap::{ArgMatches, Error};
 use std::alloc::{AllocError, Global};
 
+/// How many steps a workload may have.
+const MAX_STEPS: u32 = 100_000;
+
 /// What the words ask for, the program's name first. None are refused words: those that `clap`
 /// refuses or answers with help, and a number that the command doesn't take.
 pub fn read_words<'a>(alloc: Global, words: &'a [String]) -> Result<Option<Request<'a>>, AllocError>
-    ensures { IfOk result (λ request. option_map plain_request request
+    ensures request { IfOk result (λ request. option_map plain_request request
         ≡ request_in (map string_bytes words.entry.now)) }
+    ensures steps { IfOk result (λ request. IfSome (option_map plain_request request) HasSteps) }
 {
     match program(alloc)?.try_get_matches_from(words) {
         Ok(matches) => Ok(used_request(&matches)),
@@ -59,6 +63,8 @@ fn command_request<'a>(name: &str, used: &ArgMatches<'a>) -> Option<Command<'a>>
         keygen_request(used)
     } else if name == "seal" {
         seal_request(used)
+    } else if name == "gen" {
+        generate_request(used)
     } else {
         reply_request(name, used)
     }
@@ -127,10 +133,12 @@ fn answer_request<'a>(used: &ArgMatches<'a>) -> Option<Command<'a>>
     let key = text_of(used, "key")?;
     let journal = text_of(used, "journal")?;
     let query = text_of(used, "query")?;
+    let at = version_of(used)?;
     Some(Command::Answer {
         key,
         journal,
         query,
+        at,
     })
 }
 
@@ -170,11 +178,13 @@ fn ask_request<'a>(used: &ArgMatches<'a>) -> Option<Command<'a>>
     let address = text_of(used, "address")?;
     let key = text_of(used, "key")?;
     let query = text_of(used, "query")?;
+    let at = version_of(used)?;
     let least = least_of(used)?;
     Some(Command::Ask {
         address,
         key,
         query,
+        at,
         least,
     })
 }
@@ -220,6 +230,14 @@ fn meet_request<'a>(used: &ArgMatches<'a>) -> Option<Command<'a>>
     })
 }
 
+fn generate_request<'a>(used: &ArgMatches<'a>) -> Option<Command<'a>>
+    ensures { option_map plain_command result ≡ generate_request (rows_of (found_of used.now)) }
+{
+    let steps = step_count(text_of(used, "steps")?)?;
+    let number = number_in(text_of(used, "number")?)?;
+    Some(Command::Generate { steps, number })
+}
+
 /// The word or the option's value under this name.
 fn text_of<'a>(used: &ArgMatches<'a>, id: &str) -> Option<&'a str>
     ensures { option_map (λ text. text.now) result ≡ first_of id.now (rows_of (found_of used.now)) }
@@ -262,6 +280,16 @@ fn least_of(used: &ArgMatches<'_>) -> Option<u64>
     }
 }
 
+/// The version that is asked for, if one is; none is what is written there and isn't a number.
+fn version_of(used: &ArgMatches<'_>) -> Option<Option<u64>>
+    ensures { result ≡ given_at (rows_of (found_of used.now)) }
+{
+    match text_of(used, "at") {
+        None => Some(None),
+        Some(text) => Some(Some(number_in(text)?)),
+    }
+}
+
 fn connection_count(text: &str) -> Option<u32>
     ensures { result ≡ connection_count text.now }
 {
@@ -269,6 +297,16 @@ fn connection_count(text: &str) -> Option<u32>
         Ok(0) => None,
         Ok(count) => Some(count),
         Err(_) => None,
+    }
+}
+
+fn step_count(text: &str) -> Option<u32>
+    ensures { result ≡ step_count text.now }
+{
+    match number_in(text)? {
+        0 => None,
+        count if count <= MAX_STEPS as u64 => Some(count as u32),
+        _ => None,
     }
 }
 

@@ -105,10 +105,12 @@ pub enum Command<'a> {
         script: &'a str,
         shape: KeyShape,
     },
+    /// The reply of the version `at`, or of the last one.
     Answer {
         key: &'a str,
         journal: &'a str,
         query: &'a str,
+        at: Option<u64>,
     },
     /// The client accepts no version below `least`.
     Check {
@@ -117,11 +119,13 @@ pub enum Command<'a> {
         reply: &'a str,
         least: u64,
     },
-    /// The same of the reply that a store sends.
+    /// The same of the reply that a store sends, which is to be of the version `at` where one is
+    /// given.
     Ask {
         address: &'a str,
         key: &'a str,
         query: &'a str,
+        at: Option<u64>,
         least: u64,
     },
     Audit {
@@ -137,5 +141,10 @@ pub enum Command<'a> {
         query: &'a str,
         first: &'a str,
         second: &'a str,
+    },
+    /// The workload of so many steps that a number gives.
+    Generate {
+        steps: u32,
+        number: u64,
     },
 }
