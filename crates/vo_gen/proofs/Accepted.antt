@@ -5,7 +5,6 @@ use Rattle.std.specs.Result.{result_unwrap_or}
 use Rattle.std.specs.List.{AllByRecursion, range_with_len}
 use Rattle.std.proofs.lemmas.Bool.{lt-leb, eqb-true}
 use Rattle.std.proofs.lemmas.List.{length-map, append_assoc, append-nil}
-use Rattle.vo_spec.specs.declared.values.Kind.TheVariants as kind
 use Rattle.vo_spec.specs.declared.values.Value.TheVariants.{Text}
 use Rattle.vo_spec.specs.declared.values.Row.{Row}
 use Rattle.vo_spec.specs.declared.tables.Table.{Table}
@@ -17,22 +16,14 @@ use Rattle.vo_laws.proofs.ListLaws.{each_map, each_weaker}
 use Rattle.vo_laws.proofs.CommandLaws.{each_filter, filter_shorter, each_put_row, put_row_length}
 use Rattle.vo_laws.proofs.StepLaws.{tables_follow}
 use Rattle.vo_laws.proofs.ValueOrder.{number_length}
-use Rattle.vo_gen.specs.Workload.{max_steps, keys_for, number, creation, insertion, deletion, change, key_at, mark_at, is_even, stands, step, batch_at, batches_of, commands_of, IsNumbered}
+use Rattle.vo_gen.specs.Workload.{max_steps, keys_for, number, creation, insertion, deletion, change, key_at, mark_at, is_even, stands, step, batch_at, batches_of, commands_of, tables_of, IsDrawn}
 use Rattle.vo_gen.proofs.Rows.{same_key, has_put, has_without, has_changed}
 use Rattle.vo_gen.proofs.Standing.{stands_none, stands_more, step_is}
 
 -- The table of these rows.
 
 abbrev made : List Row → List Table
-made rows = record {
-  name = codes "t";
-  schema = record {
-    columns = record { name = codes "id"; kind = kind.Int } ∷ record { name = codes "name"; kind = kind.Text }
-        ∷ record { name = codes "boss"; kind = kind.Int } ∷ [];
-    key = 0;
-  };
-  rows = rows;
-} ∷ []
+made = tables_of
 
 abbrev new_row : ℕ → ℕ → ℕ → Row
 new_row key word boss = record {
@@ -75,42 +66,52 @@ changed key boss rows there = rw there refl
 -- One step.
 
 -- what a step of a key makes of the rows
-record Follows (c : Command) (key keys : ℕ) (stood : Bool) (rows : List Row) : Type 0 where
+record Follows (word : ℕ → ℕ) (c : Command) (key keys : ℕ) (stood : Bool) (rows : List Row) : Type 0 where
   after : List Row
   applied : apply c (made rows) ≡ Ok (made after)
   has : (k : ℕ) → k < 2 ^ 63 → has_row (key_of (number k)) after
       ≡ (if key == k then stood else has_row (key_of (number k)) rows)
-  each : AllByRecursion (IsNumbered keys) after
+  each : AllByRecursion (IsDrawn word keys) after
   count : length after ≤ suc (length rows)
 
-insertion_follows : (key word boss keys : ℕ) (rows : List Row) → key < keys → keys ≤ 2 ^ 32
+insertion_follows : (word : ℕ → ℕ) (key place boss keys : ℕ) (rows : List Row) → key < keys
+    → boss < keys → keys ≤ 2 ^ 32
     → has_row (key_of (number key)) rows ≡ false → length rows < max_rows
-    → AllByRecursion (IsNumbered keys) rows
-    → Follows (insertion key word boss) key keys true rows
-insertion_follows key word boss keys rows below most none room each = record {
-  after = put_row (new_row key word boss) rows;
-  applied = inserted key word boss rows none room;
-  has = λ k lt. has_put (key_of (number k)) (new_row key word boss) rows
+    → AllByRecursion (IsDrawn word keys) rows
+    → Follows word (insertion key (word place) boss) key keys true rows
+insertion_follows word key place boss keys rows below low most none room each = record {
+  after = put_row (new_row key (word place) boss) rows;
+  applied = inserted key (word place) boss rows none room;
+  has = λ k lt. has_put (key_of (number k)) (new_row key (word place) boss) rows
       ∙ (ap (λ b. b || has_row (key_of (number k)) rows) (same_key key k (omega arith) lt)
       ∙ either (key == k) (has_row (key_of (number k)) rows));
-  each = each_put_row (IsNumbered keys) (new_row key word boss) rows (key, below, refl) each;
-  count = omega (arith, put_row_length (new_row key word boss) rows);
+  each = each_put_row (IsDrawn word keys) (new_row key (word place) boss) rows
+      (record {
+        key = key;
+        place = place;
+        boss = boss;
+        key_below = below;
+        boss_below = low;
+        key_is = refl;
+        cells_are = refl;
+      }) each;
+  count = omega (arith, put_row_length (new_row key (word place) boss) rows);
 }
   where
     either : (b h : Bool) → (b || h) ≡ cond b true h
     either true h = refl
     either false h = refl
 
-deletion_follows : (key keys : ℕ) (rows : List Row) → key < keys → keys ≤ 2 ^ 32
-    → has_row (key_of (number key)) rows ≡ true → AllByRecursion (IsNumbered keys) rows
-    → Follows (deletion key) key keys false rows
-deletion_follows key keys rows below most there each = record {
+deletion_follows : (word : ℕ → ℕ) (key keys : ℕ) (rows : List Row) → key < keys → keys ≤ 2 ^ 32
+    → has_row (key_of (number key)) rows ≡ true → AllByRecursion (IsDrawn word keys) rows
+    → Follows word (deletion key) key keys false rows
+deletion_follows word key keys rows below most there each = record {
   after = without_row (key_of (number key)) rows;
   applied = deleted key rows there;
   has = λ k lt. has_without (key_of (number k)) (key_of (number key)) rows
       ∙ (ap (λ b. not b && has_row (key_of (number k)) rows) (same_key key k (omega arith) lt)
       ∙ apart (key == k) (has_row (key_of (number k)) rows));
-  each = each_filter (IsNumbered keys) (λ (r : Row). not (bytes_eq r.key (key_of (number key)))) rows
+  each = each_filter (IsDrawn word keys) (λ (r : Row). not (bytes_eq r.key (key_of (number key)))) rows
       each;
   count = omega (
     arith,
@@ -122,29 +123,38 @@ deletion_follows key keys rows below most there each = record {
     apart true h = refl
     apart false h = refl
 
-numbered_still : (keys : ℕ) (key : List ℕ) (changes : List CellChange) (row : Row)
-    → IsNumbered keys row → IsNumbered keys (changed_row key changes row)
-numbered_still keys key changes row is = step (bytes_eq row.key key)
+drawn_still : (word : ℕ → ℕ) (keys : ℕ) (key : List ℕ) (boss : ℕ) (row : Row) → boss < keys
+    → IsDrawn word keys row → IsDrawn word keys (changed_row key (new_boss boss) row)
+drawn_still word keys key boss row low is = step (bytes_eq row.key key)
   where
-    step : (b : Bool) → IsNumbered keys (cond b (record {
+    step : (b : Bool) → IsDrawn word keys (cond b (record {
       key = row.key;
-      cells = changed_cells changes row.cells;
+      cells = changed_cells (new_boss boss) row.cells;
     }) row)
-    step true = is
+    step true = record {
+      key = is.key;
+      place = is.place;
+      boss = boss;
+      key_below = is.key_below;
+      boss_below = low;
+      key_is = is.key_is;
+      cells_are = ap (changed_cells (new_boss boss)) is.cells_are;
+    }
     step false = is
 
-change_follows : (key boss keys : ℕ) (rows : List Row) → key < keys → keys ≤ 2 ^ 32
-    → has_row (key_of (number key)) rows ≡ true → AllByRecursion (IsNumbered keys) rows
-    → Follows (change key boss) key keys true rows
-change_follows key boss keys rows below most there each = record {
+change_follows : (word : ℕ → ℕ) (key boss keys : ℕ) (rows : List Row) → key < keys → boss < keys
+    → keys ≤ 2 ^ 32
+    → has_row (key_of (number key)) rows ≡ true → AllByRecursion (IsDrawn word keys) rows
+    → Follows word (change key boss) key keys true rows
+change_follows word key boss keys rows below low most there each = record {
   after = map (changed_row (key_of (number key)) (new_boss boss)) rows;
   applied = changed key boss rows there;
   has = λ k lt. has_changed (key_of (number k)) (key_of (number key)) (new_boss boss) rows
       ∙ stays k (key == k) refl;
-  each = each_map (IsNumbered keys) (changed_row (key_of (number key)) (new_boss boss)) rows
-      (each_weaker (IsNumbered keys)
-      (λ row. IsNumbered keys (changed_row (key_of (number key)) (new_boss boss) row))
-      (numbered_still keys (key_of (number key)) (new_boss boss)) rows each);
+  each = each_map (IsDrawn word keys) (changed_row (key_of (number key)) (new_boss boss)) rows
+      (each_weaker (IsDrawn word keys)
+      (λ row. IsDrawn word keys (changed_row (key_of (number key)) (new_boss boss) row))
+      (λ row. drawn_still word keys (key_of (number key)) boss row low) rows each);
   count = omega (arith, length-map rows (changed_row (key_of (number key)) (new_boss boss)));
 }
   where
@@ -154,24 +164,24 @@ change_follows key boss keys rows below most there each = record {
         ap (λ n. has_row (key_of (number n)) rows) (sym (eqb-true key k e)) ∙ there
     stays k false e = refl
 
-chosen_follows : (stood even : Bool) (key mark boss keys : ℕ) (rows : List Row) → key < keys
-    → keys ≤ 2 ^ 32 → has_row (key_of (number key)) rows ≡ stood → length rows < max_rows
-    → AllByRecursion (IsNumbered keys) rows
-    → Follows (if not stood then insertion key mark boss
+chosen_follows : (word : ℕ → ℕ) (stood even : Bool) (key place boss keys : ℕ) (rows : List Row)
+    → key < keys → boss < keys → keys ≤ 2 ^ 32 → has_row (key_of (number key)) rows ≡ stood
+    → length rows < max_rows → AllByRecursion (IsDrawn word keys) rows
+    → Follows word (if not stood then insertion key (word place) boss
     else if even then deletion key else change key boss) key keys (not (stood && even)) rows
-chosen_follows false even key mark boss keys rows below most is room each =
-    insertion_follows key mark boss keys rows below most is room each
-chosen_follows true true key mark boss keys rows below most is room each =
-    deletion_follows key keys rows below most is each
-chosen_follows true false key mark boss keys rows below most is room each =
-    change_follows key boss keys rows below most is each
+chosen_follows word false even key place boss keys rows below low most is room each =
+    insertion_follows word key place boss keys rows below low most is room each
+chosen_follows word true true key place boss keys rows below low most is room each =
+    deletion_follows word key keys rows below most is each
+chosen_follows word true false key place boss keys rows below low most is room each =
+    change_follows word key boss keys rows below low most is each
 
 -- The steps of a workload.
 module _ (word : ℕ → ℕ) (keys : ℕ) where
   -- the rows are those of the keys that stand behind so many steps
   record IsAt (i : ℕ) (rows : List Row) : Type 0 where
     has : (k : ℕ) → k < 2 ^ 63 → has_row (key_of (number k)) rows ≡ stands word keys i k
-    each : AllByRecursion (IsNumbered keys) rows
+    each : AllByRecursion (IsDrawn word keys) rows
     count : length rows ≤ i
 
   at_first : IsAt 0 []
@@ -179,20 +189,21 @@ module _ (word : ℕ → ℕ) (keys : ℕ) where
 
   step_follows : (i : ℕ) (rows : List Row) → 0 < keys → keys ≤ 2 ^ 32 → i < max_steps
       → IsAt i rows
-      → Follows (step word keys i) (key_at word keys i) keys
+      → Follows word (step word keys i) (key_at word keys i) keys
       (not (stands word keys i (key_at word keys i) && is_even (mark_at word keys i))) rows
   step_follows i rows some most lt at =
       let below : key_at word keys i < keys = omega arith in
+      let low : mark_at word keys i % keys < keys = omega arith in
       let count : length rows ≤ i = at.count in
-      subst (λ c. Follows c (key_at word keys i) keys
+      subst (λ c. Follows word c (key_at word keys i) keys
       (not (stands word keys i (key_at word keys i) && is_even (mark_at word keys i))) rows)
       (sym (step_is word keys i))
-      (chosen_follows (stands word keys i (key_at word keys i)) (is_even (mark_at word keys i))
-      (key_at word keys i) (mark_at word keys i) (mark_at word keys i % keys) keys rows below most
+      (chosen_follows word (stands word keys i (key_at word keys i)) (is_even (mark_at word keys i))
+      (key_at word keys i) (2 * i + 1) (mark_at word keys i % keys) keys rows below low most
       (at.has (key_at word keys i) (omega arith)) (omega arith) at.each)
 
   at_next : (i : ℕ) (rows : List Row) → IsAt i rows
-      → (f : Follows (step word keys i) (key_at word keys i) keys
+      → (f : Follows word (step word keys i) (key_at word keys i) keys
       (not (stands word keys i (key_at word keys i) && is_even (mark_at word keys i))) rows)
       → IsAt (i + 1) f.after
   at_next i rows at f = record {
@@ -317,10 +328,23 @@ workload_stands word n key most lt =
     ap (λ tables. has_row (key_of (number key)) (rows_named (codes "t") tables)) ends.tables
     ∙ ends.at.has key lt
 
-pub workload_numbered : (word : ℕ → ℕ) (n : ℕ) → n ≤ max_steps
-    → AllByRecursion (IsNumbered (keys_for n))
-    (rows_named (codes "t") (tables_after (commands_of (batches_of word n))))
-workload_numbered word n most =
+pub workload_table : (word : ℕ → ℕ) (n : ℕ) → n ≤ max_steps
+    → let tables = tables_after (commands_of (batches_of word n)) in
+    tables ≡ tables_of (rows_named (codes "t") tables)
+workload_table word n most =
     let ends = workload_ends word n most in
-    subst (λ tables. AllByRecursion (IsNumbered (keys_for n)) (rows_named (codes "t") tables))
+    ends.tables ∙ ap (λ tables. tables_of (rows_named (codes "t") tables)) (sym ends.tables)
+
+pub workload_few : (word : ℕ → ℕ) (n : ℕ) → n ≤ max_steps
+    → length (rows_named (codes "t") (tables_after (commands_of (batches_of word n)))) ≤ n
+workload_few word n most =
+    let ends = workload_ends word n most in
+    subst (λ tables. length (rows_named (codes "t") tables) ≤ n) (sym ends.tables) ends.at.count
+
+pub workload_drawn : (word : ℕ → ℕ) (n : ℕ) → n ≤ max_steps
+    → AllByRecursion (IsDrawn word (keys_for n))
+    (rows_named (codes "t") (tables_after (commands_of (batches_of word n))))
+workload_drawn word n most =
+    let ends = workload_ends word n most in
+    subst (λ tables. AllByRecursion (IsDrawn word (keys_for n)) (rows_named (codes "t") tables))
     (sym ends.tables) ends.at.each

@@ -7,6 +7,7 @@ use Rattle.vo_spec.specs.declared.values.Value.{Value}
 use Rattle.vo_spec.specs.declared.values.Value.TheVariants.{Int, Text}
 use Rattle.vo_spec.specs.declared.values.Row.{Row}
 use Rattle.vo_spec.specs.declared.tables.Batch.{Batch}
+use Rattle.vo_spec.specs.declared.tables.Table.{Table}
 use Rattle.vo_spec.specs.declared.tables.Command.{Command}
 use Rattle.vo_spec.specs.declared.tables.Command.TheVariants.{Create, Insert, Update, Delete}
 use Rattle.vo_spec.specs.declared.queries.Ref.{Ref}
@@ -166,9 +167,29 @@ queries_of word n = map (query word (keys_for n) n) (range_with_len 0 query_coun
 abbrev pub commands_of : List Batch → List (List Command)
 commands_of = map (λ (b : Batch). b.commands)
 
--- the row is of a key below this number
-abbrev pub IsNumbered : ℕ → Row → Type 0
-IsNumbered keys row = (key : ℕ) × (key < keys) × (row.key ≡ key_of (number key))
+-- the only table there is
+abbrev pub tables_of : List Row → List Table
+tables_of rows = record {
+  name = codes "t";
+  schema = record {
+    columns = record { name = codes "id"; kind = kind.Int }
+        ∷ record { name = codes "name"; kind = kind.Text }
+        ∷ record { name = codes "boss"; kind = kind.Int } ∷ [];
+    key = 0;
+  };
+  rows = rows;
+} ∷ []
+
+-- The row's key and boss are numbers below what keys are below, and its name is the letter n before
+-- one of the words.
+pub record IsDrawn (word : ℕ → ℕ) (keys : ℕ) (row : Row) : Type 0 where
+  pub key : ℕ
+  pub place : ℕ
+  pub boss : ℕ
+  pub key_below : key < keys
+  pub boss_below : boss < keys
+  pub key_is : row.key ≡ key_of (number key)
+  pub cells_are : row.cells ≡ Text (codes "n" ++ decimal (word place)) ∷ number boss ∷ []
 
 -- The workload of a number.
 
