@@ -3,3 +3,4 @@ pub mod Showing
 pub mod WantedTables
 pub mod Departures
 pub mod Evidence
+pub mod Auditors

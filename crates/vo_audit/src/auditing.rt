@@ -1,9 +1,11 @@
 //! The audit of a reply: its reading, the journal, the client's check, and the verdict, in this
 //! order.
-ghost use Rattle.std.specs.Prelude.{◌≡◌, ◌⊎◌, Err, IfOk};
+ghost use Rattle.std.specs.Prelude.{◌≡◌, ◌⊎◌, ℕ, List, Err, IfOk};
 ghost use Rattle.vo_spec.specs.Conditions.{query_of};
 ghost use Rattle.vo_spec.specs.Replies.{FitsReply};
-ghost use Rattle.owner_roots.specs.Owners.{OwnedAuditOf};
+ghost use Rattle.owner_roots.specs.Owners.{IsOwned, OwnedAuditOf};
+ghost use Rattle.owner_state.specs.Departing.{Departs};
+ghost use Rattle.held_replies.specs.Reading.{ReadsReply};
 ghost use Rattle.vo_format.specs.View.{reply_of};
 ghost use Rattle.vo_audit.specs.Auditing.{IsReadAt, AuditsReply, audit_fault, version_of};
 ghost use Rattle.vo_audit.specs.Showing.{AreFound, Shows, ShowsOf};
@@ -60,6 +62,30 @@ fn audit_reply(
     }
 }
 
+/// The verdict on bytes, or what refuses them unread, by a journal that was read with the tables of
+/// their version.
+pub(crate) fn audit_read(
+    alloc: Global,
+    key: &PublicKey,
+    owned: &OwnedJournal<'_>,
+    query: &QueryText,
+    read: Result<Reply<'_>, CheckFault>,
+) -> Result<Verdict, AuditFault>
+    requires read { IfOk read (λ reply. IsReadAt reply.rec.version owned.now) }
+    requires fits { IfOk read (λ reply. FitsReply (reply_of reply)) }
+    ensures verdict { (journal bytes : List ℕ) → IsOwned key.now journal owned.now.entries
+        → ReadsReply bytes read.entry → (result ≡ Err AuditFault.Memory)
+        ⊎ OwnedAuditOf key.now journal (query_of query.now) bytes result }
+    ensures shown { (journal bytes : List ℕ) → IsOwned key.now journal owned.now.entries
+        → Departs key.now owned.now.entries owned.now.departure → ReadsReply bytes read.entry
+        → IfOk result (λ verdict. ShowsOf key.now journal (query_of query.now) bytes verdict) }
+{
+    match read {
+        Ok(reply) => audit_reply(alloc, key, owned, query, &reply),
+        Err(fault) => Err(audit_fault(fault)),
+    }
+}
+
 /// The verdict on the bytes as a reply to the query, by the bytes as the journal of the key's
 /// owner. A bad journal is told before anything of the reply.
 pub fn audit(
@@ -79,12 +105,7 @@ pub fn audit(
 {
     let read = read_within(alloc, reply);
     match read_owned(alloc, key, journal, version_of(&read)) {
-        Ok(owned) => {
-            match read {
-                Ok(reply) => audit_reply(alloc, key, &owned, query, &reply),
-                Err(fault) => Err(audit_fault(fault)),
-            }
-        },
+        Ok(owned) => audit_read(alloc, key, &owned, query, read),
         Err(JournalFault::BadAt { index }) => Err(AuditFault::BadJournal { index }),
         Err(JournalFault::Memory) => Err(AuditFault::Memory),
     }

@@ -2,6 +2,7 @@
 #![tactic(auto)]
 
 mod auditing;
+mod auditor;
 mod departures;
 mod evidence;
 mod holding;
@@ -10,4 +11,6 @@ mod tree_evidence;
 mod verdicts;
 
 pub use auditing::audit;
+pub use auditor::Auditor;
+pub use owner_state::JournalFault;
 pub use vo_spec::{AuditFault, QueryText, Verdict};
