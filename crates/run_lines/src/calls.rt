@@ -100,7 +100,11 @@ fn command_form(alloc: Global, command: Command<'_>) -> Result<String, NoAnswer>
             key,
             journal,
             query,
-        } => format!(in alloc; "(answer {key:?} {journal:?} {query:?})")?,
+            at,
+        } => {
+            let at = version_text(alloc, at)?;
+            format!(in alloc; "(answer {key:?} {journal:?} {query:?} {at})")?
+        }
         Command::Check {
             key,
             query,
@@ -111,8 +115,12 @@ fn command_form(alloc: Global, command: Command<'_>) -> Result<String, NoAnswer>
             address,
             key,
             query,
+            at,
             least,
-        } => format!(in alloc; "(ask {address:?} {key:?} {query:?} {least})")?,
+        } => {
+            let at = version_text(alloc, at)?;
+            format!(in alloc; "(ask {address:?} {key:?} {query:?} {at} {least})")?
+        }
         Command::Audit {
             key,
             journal,
@@ -126,6 +134,15 @@ fn command_form(alloc: Global, command: Command<'_>) -> Result<String, NoAnswer>
             first,
             second,
         } => format!(in alloc; "(meet {key:?} {query:?} {first:?} {second:?})")?,
+        Command::Generate { steps, number } => format!(in alloc; "(gen {steps} {number})")?,
+    })
+}
+
+/// A version that is asked for, or none.
+fn version_text(alloc: Global, at: Option<u64>) -> Result<String, NoAnswer> {
+    Ok(match at {
+        Some(version) => format!(in alloc; "{version}")?,
+        None => "none".to_string(alloc)?,
     })
 }
 

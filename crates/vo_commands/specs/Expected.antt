@@ -6,9 +6,10 @@ use Rattle.outside.specs.Shelf.{Files}
 use Rattle.outside.specs.ConnectionModel.{ConnectionModel, open_next}
 use Rattle.link_frames.specs.declared.awaits.Awaits.TheVariants.{Reply as ReplyAwaited}
 use Rattle.link_frames.specs.declared.frame_kind.FrameKind.{FrameKind}
-use Rattle.link_frames.specs.declared.frame_kind.FrameKind.TheVariants.{Query as QueryFrame, Refusal}
+use Rattle.link_frames.specs.declared.frame_kind.FrameKind.TheVariants.{Query as QueryFrame, QueryAt as QueryAtFrame, Refusal}
 use Rattle.link_frames.specs.Frames.{Coming, Whole, Ended, Cut, Bad, first_frame, frame_bytes}
 use Rattle.link_frames.specs.Reading.{IsHalfAsked}
+use Rattle.store_requests.specs.Bodies.{query_at_bytes}
 use Rattle.outside.specs.Outputs.{Output, Writes, outside_failure}
 use Rattle.vo_spec.specs.declared.signatures.OtsType.TheVariants.{W8}
 use Rattle.vo_spec.specs.declared.tables.Batch.{Batch}
@@ -25,9 +26,9 @@ use Rattle.vo_spec.specs.Keys.{is_public_key}
 use Rattle.vo_spec.specs.Secret.{Secret, secret_of, public_of_secret, lms_of_height, secret_leaves}
 use Rattle.vo_spec.specs.Conditions.{Query}
 use Rattle.vo_spec.specs.Journals.{IsJournal, journal_bytes}
-use Rattle.vo_spec.specs.Replies.{Reply, reply_bytes, max_reply}
-use Rattle.vo_spec.specs.Honest.{seal_batches, reply_of}
-use Rattle.vo_spec.specs.Owners.{IsLoadable, IsUnloadableAt}
+use Rattle.vo_spec.specs.Replies.{Reply, max_reply}
+use Rattle.vo_spec.specs.Honest.{seal_batches}
+use Rattle.vo_spec.specs.Owners.{IsUnloadableAt}
 use Rattle.vo_spec.specs.Checks.{CheckOf}
 use Rattle.owner_roots.specs.Owners.{OwnedAuditOf}
 use Rattle.lms_forge.specs.declared.explanation.Explanation.{Explanation}
@@ -39,23 +40,24 @@ use Rattle.reply_meeting.specs.Meetings.{RepliesMeet}
 use Rattle.owner_state.specs.declared.sealing.SealFault.{SealFault}
 use Rattle.owner_state.specs.declared.sealing.SealFault.TheVariants as seal
 use Rattle.owner_state.specs.Sealing.{commands_of, seal_fault}
+use Rattle.vo_store.specs.Replying.{HasReply, HasReplyAt, IsNoVersion}
 use Rattle.vo_words.specs.Shapes.{PlainShape}
-use Rattle.vo_words.specs.PlainRequest.{PlainRequest, Keygen, Seal, Own, Answer, Serve, Check, Ask, Audit, Explain, Meet}
+use Rattle.vo_words.specs.PlainRequest.{PlainRequest, Keygen, Seal, Own, Answer, Serve, Check, Ask, Audit, Explain, Meet, Generate}
 use Rattle.sql_text.specs.Scripts.{IsScript}
-use Rattle.vo_commands.specs.Lines.{success, refusal, input_refusal, check_output, audit_output, unsigned_output, unsigned_lines, explanation_lines, meet_output, bad_journal, command_output, spent_key, store_refusal, bad_frame, cut_off}
+use Rattle.vo_commands.specs.Lines.{success, refusal, input_refusal, asked_output, no_version, gen_output, audit_output, unsigned_output, unsigned_lines, explanation_lines, meet_output, bad_journal, command_output, spent_key, store_refusal, bad_frame, cut_off}
 use Rattle.vo_commands.specs.Texts.{IsQueryText, IsRefusedQuery, IsRefusedScript}
 
 -- These lines; or what is expected of the query or the script that a text is; or what a relation
 -- allows: the reply to a query by a journal, what a client or an auditor answers to one, or an
 -- auditor to the key's owner, what two replies are to each other, and why no store of a journal
 -- serves connections; or, with no lines of its own, that an owner of a key commits batches; or
--- anything, where the network isn't known.
+-- anything, where the network isn't known. A version may be asked for (`at`).
 pub data Expected : Type 0 where
   Exactly : (output : Output) → Expected
   OfQuery : (text : List ℕ) (rest : Query → Expected) → Expected
   OfScript : (text : List ℕ) (rest : List Batch → Expected) → Expected
-  Replies : (key journal : List ℕ) (q : Query) → Expected
-  Checks : (key : List ℕ) (least : ℕ) (q : Query) (reply : List ℕ) → Expected
+  Replies : (key journal : List ℕ) (at : Option ℕ) (q : Query) → Expected
+  Checks : (key : List ℕ) (at : Option ℕ) (least : ℕ) (q : Query) (reply : List ℕ) → Expected
   Audits : (key journal : List ℕ) (q : Query) (reply : List ℕ) → Expected
   Explains : (secret : Secret) (journal : List ℕ) (q : Query) (reply : List ℕ) → Expected
   Meets : (key : List ℕ) (q : Query) (first second : List ℕ) → Expected
@@ -69,12 +71,24 @@ reply_output bytes =
     if nat_lt max_reply (length bytes)
     then refusal 1 (codes "too large" ∷ decimal (length bytes) ∷ []) else success bytes
 
+-- what a store that has loaded the journal replies by the version that is asked for, or by the last
+abbrev pub HasReplyFor : List ℕ → List ℕ → Option ℕ → Query → List ℕ → Type 0
+HasReplyFor key journal None q bytes = HasReply key journal q bytes
+HasReplyFor key journal (Some version) q bytes = HasReplyAt key journal version q bytes
+
+-- or the version that is asked for is none of those from the oldest to the newest that it keeps
+abbrev pub LacksVersion : List ℕ → List ℕ → Option ℕ → (version oldest newest : ℕ) → Type 0
+LacksVersion key journal None version oldest newest = ⊥
+LacksVersion key journal (Some wanted) version oldest newest =
+    (version ≡ wanted) × IsNoVersion key journal wanted oldest newest
+
 -- A store loads the journal's entries, or they fail at one.
-abbrev pub IsStoreOutput : List ℕ → List ℕ → Query → Output → Type 0
-IsStoreOutput key journal q output =
+abbrev pub IsStoreOutput : List ℕ → List ℕ → Option ℕ → Query → Output → Type 0
+IsStoreOutput key journal at q output =
     ((index : ℕ) × IsUnloadableAt key journal index × (output ≡ bad_journal index))
-    ⊎ ((es : List Entry) × (r : Reply) × IsLoadable key journal es × (reply_of q es ≡ Some r)
-    × (output ≡ reply_output (reply_bytes r)))
+    ⊎ ((bytes : List ℕ) × HasReplyFor key journal at q bytes × (output ≡ reply_output bytes))
+    ⊎ ((version oldest newest : ℕ) × LacksVersion key journal at version oldest newest
+    × (output ≡ no_version version oldest newest))
 
 -- A journal of some entries fails at this one, for a store.
 abbrev pub IsUnservableAt : List ℕ → List ℕ → ℕ → Type 0
@@ -101,10 +115,10 @@ Allows (OfQuery text rest) output =
 Allows (OfScript text rest) output =
     ((batches : List Batch) × IsScript text batches × Allows (rest batches) output)
     ⊎ (((batches : List Batch) → IsScript text batches → ⊥) × IsRefusedScript text output)
-Allows (Replies key journal q) output = IsStoreOutput key journal q output
-Allows (Checks key least q reply) output =
+Allows (Replies key journal at q) output = IsStoreOutput key journal at q output
+Allows (Checks key at least q reply) output =
     (answer : Result Accepted CheckFault) × CheckOf key least q reply answer
-    × (output ≡ check_output answer)
+    × (output ≡ asked_output at answer)
 Allows (Audits key journal q reply) output =
     (answer : Result Verdict AuditFault) × OwnedAuditOf key journal q reply answer
     × (output ≡ audit_output answer)
@@ -236,19 +250,20 @@ seal_expected seed script shape files =
     with_seed files seed shape (λ secret. with_file files script script_limit
     (script_expected secret))
 
-abbrev pub answer_expected : List ℕ → List ℕ → List ℕ → Files → Expected
-answer_expected key journal query files =
+abbrev pub answer_expected : List ℕ → List ℕ → List ℕ → Option ℕ → Files → Expected
+answer_expected key journal query at files =
     with_key files key (λ k. with_file files journal journal_limit
-    (λ j. OfQuery query (λ q. Replies k j q)))
+    (λ j. OfQuery query (λ q. Replies k j at q)))
 
 abbrev pub check_expected : List ℕ → List ℕ → List ℕ → ℕ → Files → Expected
 check_expected key query reply least files =
     with_key files key
-    (λ k. OfQuery query (λ q. with_file files reply reply_limit (λ r. Checks k least q r)))
+    (λ k. OfQuery query (λ q. with_file files reply reply_limit (λ r. Checks k None least q r)))
 
-abbrev pub ask_expected : List ℕ → List ℕ → ℕ → Files → Option (List (List ℕ)) → Expected
-ask_expected key query least files queue =
-    with_key files key (λ k. OfQuery query (λ q. with_reply queue (λ r. Checks k least q r)))
+abbrev pub ask_expected : List ℕ → List ℕ → Option ℕ → ℕ → Files → Option (List (List ℕ))
+    → Expected
+ask_expected key query at least files queue =
+    with_key files key (λ k. OfQuery query (λ q. with_reply queue (λ r. Checks k at least q r)))
 
 abbrev pub audit_expected : List ℕ → List ℕ → List ℕ → List ℕ → Files → Expected
 audit_expected key journal query reply files =
@@ -273,27 +288,28 @@ meet_expected key query first second files =
     with_key files key (λ k. OfQuery query (λ q. with_file files first reply_limit (λ r.
     with_file files second reply_limit (λ s. Meets k q r s))))
 
--- where the files are known; what `own` and `serve` come to is told apart, since they write as they
--- work
+-- where the files are known, if it takes some; what `own` and `serve` come to is told apart, since
+-- they write as they work
 abbrev pub command_expected : PlainRequest → Option Files → Option (List (List ℕ))
     → Option Expected
 command_expected (Keygen seed shape) files queue = option_map (keygen_expected seed shape) files
 command_expected (Seal seed script shape) files queue =
     option_map (seal_expected seed script shape) files
 command_expected (Own seed address script shape) files queue = None
-command_expected (Answer key journal query) files queue =
-    option_map (answer_expected key journal query) files
+command_expected (Answer key journal query at) files queue =
+    option_map (answer_expected key journal query at) files
 command_expected (Serve address key journal count) files queue = None
 command_expected (Check key query reply least) files queue =
     option_map (check_expected key query reply least) files
-command_expected (Ask address key query least) files queue =
-    option_map (λ files. ask_expected key query least files queue) files
+command_expected (Ask address key query at least) files queue =
+    option_map (λ files. ask_expected key query at least files queue) files
 command_expected (Audit key journal query reply) files queue =
     option_map (audit_expected key journal query reply) files
 command_expected (Explain key journal query reply seed shape) files queue =
     option_map (explain_expected key journal query reply seed shape) files
 command_expected (Meet key query first second) files queue =
     option_map (meet_expected key query first second) files
+command_expected (Generate steps number) files queue = Some (Exactly (gen_output steps number))
 
 -- the connections to come, where they are known
 abbrev pub queue_of : Option ConnectionModel → Option (List (List ℕ))
@@ -322,6 +338,11 @@ abbrev pub IsKeyFile : List ℕ → Option Files → Type 0
 IsKeyFile name files = IfSome files
     (λ known. (key : List ℕ) × (known name ≡ Some key) × IsTrue (is_public_key key))
 
+-- the frame that asks for the reply to a query, given as text: of a version, if one is asked for
+abbrev pub question_frame : Option ℕ → List ℕ → List ℕ
+question_frame None text = frame_bytes QueryFrame text
+question_frame (Some version) text = frame_bytes QueryAtFrame (query_at_bytes version text)
+
 -- the text is a query
 abbrev pub HasQuery : List ℕ → Type 0
 HasQuery text = (q : Query) × IsQueryText text q
@@ -332,15 +353,15 @@ abbrev pub UsesNet : Option PlainRequest → Option Files → ConnectionModel �
     → Type 0
 UsesNet (Some (Own seed address script shape)) files before after = Unit {0}
 UsesNet (Some (Serve address key journal count)) files before after = Unit {0}
-UsesNet (Some (Ask address key query least)) files before after =
-    AsksWhere (IsKeyFile key files × HasQuery query) (frame_bytes QueryFrame query) before after
+UsesNet (Some (Ask address key query at least)) files before after =
+    AsksWhere (IsKeyFile key files × HasQuery query) (question_frame at query) before after
 UsesNet _ files before after = after ≡ Some before
 
 -- a command that makes or takes connections
 abbrev pub uses_net : Option PlainRequest → Bool
 uses_net (Some (Own seed address script shape)) = true
 uses_net (Some (Serve address key journal count)) = true
-uses_net (Some (Ask address key query least)) = true
+uses_net (Some (Ask address key query at least)) = true
 uses_net _ = false
 
 -- a command that writes as it works
@@ -363,7 +384,7 @@ uses_disk _ = false
 abbrev pub connections_of : Option PlainRequest → ℕ
 connections_of (Some (Own seed address script shape)) = 1
 connections_of (Some (Serve address key journal count)) = count
-connections_of (Some (Ask address key query least)) = 1
+connections_of (Some (Ask address key query at least)) = 1
 connections_of _ = 0
 
 -- A run ends with an expected output, or the outside failed, or memory ran out.
@@ -378,14 +399,15 @@ abbrev pub files_of_request : PlainRequest → List (List ℕ)
 files_of_request (Keygen seed shape) = seed ∷ []
 files_of_request (Seal seed script shape) = seed ∷ script ∷ []
 files_of_request (Own seed address script shape) = seed ∷ script ∷ []
-files_of_request (Answer key journal query) = key ∷ journal ∷ []
+files_of_request (Answer key journal query at) = key ∷ journal ∷ []
 files_of_request (Serve address key journal count) = key ∷ journal ∷ []
 files_of_request (Check key query reply least) = key ∷ reply ∷ []
-files_of_request (Ask address key query least) = key ∷ []
+files_of_request (Ask address key query at least) = key ∷ []
 files_of_request (Audit key journal query reply) = key ∷ journal ∷ reply ∷ []
 files_of_request (Explain key journal query reply seed shape) =
     key ∷ journal ∷ reply ∷ seed ∷ []
 files_of_request (Meet key query first second) = key ∷ first ∷ second ∷ []
+files_of_request (Generate steps number) = []
 
 -- what their files come to, whatever the network and the disk do
 abbrev pub files_expected : PlainRequest → Files → Expected
@@ -393,16 +415,17 @@ files_expected (Keygen seed shape) files = keygen_expected seed shape files
 files_expected (Seal seed script shape) files = seal_expected seed script shape files
 files_expected (Own seed address script shape) files =
     with_seed files seed shape (λ _. with_file files script script_limit (λ _. Anything))
-files_expected (Answer key journal query) files = answer_expected key journal query files
+files_expected (Answer key journal query at) files = answer_expected key journal query at files
 files_expected (Serve address key journal count) files =
     with_key files key (λ _. with_file files journal journal_limit (λ _. Anything))
 files_expected (Check key query reply least) files = check_expected key query reply least files
-files_expected (Ask address key query least) files = with_key files key (λ _. Anything)
+files_expected (Ask address key query at least) files = with_key files key (λ _. Anything)
 files_expected (Audit key journal query reply) files =
     audit_expected key journal query reply files
 files_expected (Explain key journal query reply seed shape) files =
     explain_expected key journal query reply seed shape files
 files_expected (Meet key query first second) files = meet_expected key query first second files
+files_expected (Generate steps number) files = Exactly (gen_output steps number)
 
 abbrev pub words_expected : Option PlainRequest → Files → Expected
 words_expected None files = Exactly words_refusal

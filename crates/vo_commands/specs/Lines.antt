@@ -1,5 +1,5 @@
 -- The output of the program: a status, and lines of text.
-use Rattle.std.specs.Prelude.{ℕ, List, [], ◌∷◌, ◌++◌, map, flat_map, length, codes, decimal, ◌==◌, if◌then◌else◌, true, false, Result, Ok, Err}
+use Rattle.std.specs.Prelude.{ℕ, List, [], ◌∷◌, ◌++◌, map, flat_map, length, codes, decimal, ◌==◌, if◌then◌else◌, true, false, Option, Some, None, Result, Ok, Err}
 use Rattle.std.specs.Fmt.{signed_decimal}
 use Rattle.hex.specs.Hex.{encode_lower}
 use Rattle.outside.specs.Outputs.{Output, line}
@@ -30,6 +30,8 @@ use Rattle.sql_text.specs.declared.faults.SqlFault.TheVariants as sql
 use Rattle.lms_forge.specs.declared.explanation.Explanation.{Explanation}
 use Rattle.lms_forge.specs.declared.explanation.Explanation.TheVariants as explanation
 use Rattle.vo_spec.specs.Records.{record_bytes}
+use Rattle.workload_run.specs.declared.summary.Summary.{Summary}
+use Rattle.workload_run.specs.Workloads.{workload_summary}
 use Rattle.vo_spec.specs.Replies.{Reply}
 use Rattle.vo_spec.specs.Results.{ref_title}
 
@@ -112,6 +114,24 @@ fault_words check.Memory = []
 abbrev pub check_output : Result Answer CheckFault → Output
 check_output (Ok answer) = success (version_line answer.version ++ outcome_lines answer.outcome)
 check_output (Err fault) = refusal 1 (fault_words fault)
+
+-- What is printed where a version was asked for, or none.
+
+-- a version that no store of the journal keeps, and from which to which it keeps them
+abbrev pub no_version : ℕ → ℕ → ℕ → Output
+no_version version oldest newest =
+    refusal 1 (codes "no version" ∷ decimal version ∷ decimal oldest ∷ decimal newest ∷ [])
+
+-- a reply that is accepted, and is of another version
+abbrev pub other_version : ℕ → ℕ → Output
+other_version version got = refusal 1 (codes "version" ∷ decimal version ∷ decimal got ∷ [])
+
+abbrev pub asked_output : Option ℕ → Result Answer CheckFault → Output
+asked_output None answer = check_output answer
+asked_output (Some version) (Err fault) = check_output (Err fault)
+asked_output (Some version) (Ok answer) =
+    if answer.version == version then check_output (Ok answer)
+    else other_version version answer.version
 
 -- What a store answers over a network in place of a reply.
 
@@ -220,6 +240,21 @@ meet_output (Ok met) = meeting_output met.0 met.1 met.2
 meet_output (Err (First fault)) = line_output (codes "refused first:") 1 (fault_words fault)
 meet_output (Err (Second fault)) = line_output (codes "refused second:") 1 (fault_words fault)
 meet_output (Err Memory) = refusal 1 []
+
+-- What `gen` prints of a workload.
+
+abbrev pub number_line : List ℕ → ℕ → List ℕ
+number_line name number = words_line (name ∷ decimal number ∷ [])
+
+abbrev pub workload_lines : Summary → List ℕ
+workload_lines s = number_line (codes "commands") s.commands
+    ++ number_line (codes "version") s.version ++ number_line (codes "rows") s.rows
+    ++ number_line (codes "answers") s.answers
+    ++ number_line (codes "answer rows") s.answer_rows ++ number_line (codes "exact") s.exact
+    ++ words_line (codes "last" ∷ encode_lower (record_bytes s.last) ∷ [])
+
+abbrev pub gen_output : ℕ → ℕ → Output
+gen_output steps number = success (workload_lines (workload_summary steps number))
 
 -- Refusals of `seal`.
 

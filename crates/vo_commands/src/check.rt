@@ -1,16 +1,19 @@
 //! `check`: the answer that a client takes from a reply, or why it refuses it.
-ghost use Rattle.std.specs.Prelude.{◌≡◌, ◌⊎◌, ℕ, List, [], ◌∷◌, Err, IfSome};
+ghost use Rattle.std.specs.Prelude.{◌≡◌, ◌⊎◌, ℕ, List, [], ◌∷◌, None, Ok, Err, IfSome};
 ghost use Rattle.vo_spec.specs.Checks.{CheckOf};
 ghost use Rattle.vo_spec.specs.Conditions.{Query, query_of};
-ghost use Rattle.vo_commands.specs.Expected.{check_expected, with_file, reply_limit, Checks};
+ghost use Rattle.vo_commands.specs.Expected.{check_expected, with_file, reply_limit, Checks, Exactly};
+ghost use Rattle.vo_commands.specs.Lines.{asked_output};
 ghost use Rattle.vo_commands.specs.Reports.{Answers, StaysInside};
 ghost use Rattle.vo_commands.specs.Taking.{TakesFiles, One, Along};
 
 use crate::answers::answer_report;
 use crate::files::{take_file, take_key};
 use crate::limits::REPLY_LIMIT;
+use crate::piece::Word;
+use crate::refusals::refusal;
 use crate::reply_refusals::reply_refusal;
-use crate::report::{Report, Stop};
+use crate::report::{Report, Status, Stop};
 use crate::texts::query_in;
 use lms_sign::PublicKey;
 use outside::Shelf;
@@ -52,7 +55,7 @@ fn check_file<F: Shelf>(
 ) -> Result<Report, Stop>
     ensures known { IfSome (F.contents files.old)
         (λ known. Answers (with_file known reply.now reply_limit
-        (λ bytes. Checks key least (query_of query.now) bytes)) result) }
+        (λ bytes. Checks key None least (query_of query.now) bytes)) result) }
     ensures files { TakesFiles F.contents F.faults F.misses (One reply.now) files.old files.new
         result }
 {
@@ -68,34 +71,60 @@ fn check_report(
     query: &QueryText,
     reply: &[u8],
 ) -> Result<Report, Stop>
-    ensures known { Answers (Checks key least (query_of query.now) reply.now) result }
+    ensures known { Answers (Checks key None least (query_of query.now) reply.now) result }
     ensures inside { StaysInside result }
 {
     let mut client = Client::new(key, least);
-    client_report(alloc, client.check(alloc, query, reply))
+    client_report(alloc, None, client.check(alloc, query, reply))
 }
 
-/// What is printed of what a client says of a reply.
-pub fn client_report(alloc: Global, answer: Result<Answer, CheckFault>) -> Result<Report, Stop>
+/// What is printed of what a client says of a reply, of which a version was asked for, or none.
+pub fn client_report(
+    alloc: Global,
+    at: Option<u64>,
+    answer: Result<Answer, CheckFault>,
+) -> Result<Report, Stop>
     ensures known { (key : List ℕ) (least : ℕ) (q : Query) (reply : List ℕ)
         → (answer ≡ Err CheckFault.Memory) ⊎ CheckOf key least q reply answer
-        → Answers (Checks key least q reply) result }
+        → Answers (Checks key at least q reply) result }
     ensures inside { StaysInside result }
 {
-    let report = report_of(alloc, &answer);
+    let report = report_of(alloc, at, &answer);
     drop(answer);
     report
 }
 
-fn report_of(alloc: Global, answer: &Result<Answer, CheckFault>) -> Result<Report, Stop>
+fn report_of(
+    alloc: Global,
+    at: Option<u64>,
+    answer: &Result<Answer, CheckFault>,
+) -> Result<Report, Stop>
     ensures known { (key : List ℕ) (least : ℕ) (q : Query) (reply : List ℕ)
         → (answer.now ≡ Err CheckFault.Memory) ⊎ CheckOf key least q reply answer.now
-        → Answers (Checks key least q reply) result }
+        → Answers (Checks key at least q reply) result }
     ensures inside { StaysInside result }
 {
     match answer {
-        Ok(answer) => Ok(answer_report(alloc, answer)?),
+        Ok(answer) => accepted_report(alloc, at, answer),
         Err(CheckFault::Memory) => Err(Stop::Memory),
         Err(fault) => Err(Stop::Refused(reply_refusal(alloc, "refused:", fault)?)),
+    }
+}
+
+/// An answer that a client accepts; where another version was asked for, it is refused.
+fn accepted_report(alloc: Global, at: Option<u64>, answer: &Answer) -> Result<Report, Stop>
+    ensures known { Answers (Exactly (asked_output at (Ok answer.now))) result }
+    ensures inside { StaysInside result }
+{
+    match at {
+        Some(version) if version != answer.version => {
+            let words = [
+                Word::Phrase("version"),
+                Word::Number(version),
+                Word::Number(answer.version),
+            ];
+            Err(Stop::Refused(refusal(alloc, Status::RefusedReply, &words)?))
+        }
+        _ => Ok(answer_report(alloc, answer)?),
     }
 }

@@ -9,6 +9,7 @@ mod check;
 mod explain;
 mod explanations;
 mod files;
+mod generate;
 mod journal_owner;
 mod keygen;
 mod limits;

@@ -1,10 +1,11 @@
 //! Checking the reply of a store as it comes, over a network.
-ghost use Rattle.std.specs.Prelude.{◌≡◌, ◌<◌, ◌≤◌, ◌^◌, [], length, Some, IsTrue, IfOk, OnOk, Ok};
+ghost use Rattle.std.specs.Prelude.{◌≡◌, ◌+◌, ◌<◌, ◌≤◌, ◌^◌, [], length, Some, IsTrue, IfOk, OnOk, IsErrOf, Ok};
 ghost use Rattle.outside.specs.ConnectionModel.{ConnectionModel, has_next};
 ghost use Rattle.link_frames.specs.Reading.{KeepsNetCounts};
-ghost use Rattle.link_frames.specs.declared.frame_kind.FrameKind.TheVariants.{Query};
-ghost use Rattle.link_frames.specs.Frames.{frame_bytes, max_query};
-ghost use Rattle.vo_commands.specs.Expected.{AsksOnly, with_reply};
+ghost use Rattle.link_frames.specs.Frames.{max_query};
+ghost use Rattle.connections.specs.Fetching.{Fetches};
+ghost use Rattle.vo_check.specs.Checkings.{with_piece};
+ghost use Rattle.vo_commands.specs.Expected.{AsksOnly, question_frame, with_reply};
 ghost use Rattle.vo_commands.specs.Reports.{GoesOn, StopsWithout, FailsOutside};
 
 use crate::piece::Word;
@@ -13,14 +14,15 @@ use crate::report::{Status, Stop};
 use outside::Net;
 use std::alloc::{AllocError, Global};
 use vo_check::Checking;
-use vo_wire::{WireFault, fetch_into};
+use vo_wire::{WireFault, fetch_at_into, fetch_into};
 
 /// Feeds a check that has no bytes yet with the reply to its query, given as text, of the store at
-/// this address.
+/// this address, which is asked for a version, or for none.
 pub fn feed_reply<N: Net>(
     alloc: Global,
     net: &mut N,
     address: &str,
+    at: Option<u64>,
     query: &str,
     checking: &mut Checking<'_>,
 ) -> Result<(), Stop>
@@ -30,16 +32,44 @@ pub fn feed_reply<N: Net>(
     ensures known { (before : ConnectionModel) → N.wire net.old ≡ Some before
         → GoesOn (λ _. checking.new.bytes) (with_reply (Some before.queue)) result }
     ensures asks { (before : ConnectionModel) → N.wire net.old ≡ Some before
-        → AsksOnly (frame_bytes Query query.now) before (N.wire net.new) }
+        → AsksOnly (question_frame at query.now) before (N.wire net.new) }
     ensures short { OnOk result (length checking.new.bytes < 2 ^ 32) }
     ensures query { checking.new.query ≡ checking.old.query }
 
     ensures counts { KeepsNetCounts N.wire N.faults N.misses net.old net.new
         (FailsOutside result) }
 {
-    match fetch_into(alloc, net, address, query.as_bytes(), checking) {
+    match fetch_reply(alloc, net, address, at, query, checking) {
         Ok(()) => Ok(()),
         Err(fault) => Err(stop_without(alloc, fault)?),
+    }
+}
+
+/// Feeds the check with the reply as it comes.
+fn fetch_reply<N: Net>(
+    alloc: Global,
+    net: &mut N,
+    address: &str,
+    at: Option<u64>,
+    query: &str,
+    checking: &mut Checking<'_>,
+) -> Result<(), WireFault>
+    requires some { 1 ≤ length query.now }
+    requires fits { length query.now ≤ max_query }
+    ensures known { (before : ConnectionModel) → N.wire net.old ≡ Some before
+        → Fetches (λ reply. checking.new ≡ with_piece checking.old reply)
+        (question_frame at query.now) result before (N.wire net.new) }
+    ensures short { OnOk result
+        (length checking.new.bytes + 1 < length checking.old.bytes + 2 ^ 32) }
+    ensures query { checking.new.query ≡ checking.old.query }
+
+    ensures counts { KeepsNetCounts N.wire N.faults N.misses net.old net.new
+        (IsErrOf result WireFault.LinkFault) }
+{
+    let text = query.as_bytes();
+    match at {
+        None => fetch_into(alloc, net, address, text, checking),
+        Some(version) => fetch_at_into(alloc, net, address, version, text, checking),
     }
 }
 

@@ -2,7 +2,7 @@
 ghost use Rattle.std.specs.Prelude.{◌≡◌, ◌≢◌, ◌⊎◌, ◌≤◌, false, length, map, string_bytes, Some, None, IfSome};
 ghost use Rattle.outside.specs.ConnectionModel.{ConnectionModel};
 ghost use Rattle.outside.specs.FaultRose.{FaultRose};
-ghost use Rattle.vo_words.specs.PlainRequest.{request_in};
+ghost use Rattle.vo_words.specs.PlainRequest.{HasSteps, request_in};
 ghost use Rattle.vo_words.specs.Request.{plain_command};
 ghost use Rattle.vo_commands.specs.Expected.{Exactly, is_service, expected_of, command_expected, words_refusal, queue_of, connections_of, uses_disk, uses_net, writes_as_it_works, UsesNet, Ends, HoldsEach, file_words, files_expected, words_expected};
 ghost use Rattle.vo_commands.specs.Owning.{CommitsNothing, OwnEnds, own_expected};
@@ -11,10 +11,11 @@ ghost use Rattle.vo_commands.specs.Serving.{ServeEnds, serve_expected};
 ghost use Rattle.vo_commands.specs.Taking.{LacksFile, LeavesFiles, Along};
 
 use crate::answer::answer;
-use crate::ask::ask;
+use crate::ask::{Versions, ask};
 use crate::audit::audit;
 use crate::check::check;
 use crate::explain::explain;
+use crate::generate::generate;
 use crate::keygen::keygen;
 use crate::meet::meet;
 use crate::output::print_outcome;
@@ -40,8 +41,9 @@ pub fn run<F: Shelf, D: Disk, N: Net, S: Sink>(
     net: &mut N,
     out: &mut S,
 ) -> u8
-    // Where the contents of the files are known, it ends with the expected output, or a fault rose,
-    // or memory ran out; of `ask` by the connections to come too, where these are known.
+    // Where the contents of the files are known, or it takes none, it ends with the expected output,
+    // or a fault rose, or memory ran out; of `ask` by the connections to come too, where these are
+    // known.
     ensures lines { IfSome (expected_of (request_in (map string_bytes words.now))
         (F.contents files.old) (queue_of (N.wire net.old)))
         (λ expected. Ends expected (FaultRose (F.faults files.old) (F.faults files.new)
@@ -133,6 +135,7 @@ fn run_command<F: Shelf, N: Net>(
     files: &mut F,
     net: &mut N,
 ) -> Result<Report, Stop>
+    requires steps { HasSteps (plain_command command) }
     ensures known { IfSome (command_expected (plain_command command.entry) (F.contents files.old)
         (queue_of (N.wire net.old))) (λ expected. Answers expected result) }
     ensures files { LeavesFiles F.contents F.faults F.misses
@@ -163,7 +166,8 @@ fn run_command<F: Shelf, N: Net>(
             key,
             journal,
             query,
-        } => answer(alloc, files, key, journal, query),
+            at,
+        } => answer(alloc, files, key, journal, query, at),
         Command::Check {
             key,
             query,
@@ -174,8 +178,12 @@ fn run_command<F: Shelf, N: Net>(
             address,
             key,
             query,
+            at,
             least,
-        } => ask(alloc, files, net, address, key, query, least),
+        } => {
+            let versions = Versions { at, least };
+            ask(alloc, files, net, address, key, query, versions)
+        }
         Command::Audit {
             key,
             journal,
@@ -189,5 +197,6 @@ fn run_command<F: Shelf, N: Net>(
             first,
             second,
         } => meet(alloc, files, key, query, first, second),
+        Command::Generate { steps, number } => generate(alloc, steps, number),
     }
 }
