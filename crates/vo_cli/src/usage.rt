@@ -14,9 +14,9 @@ usage:
     vo_cli own SEED ADDR SQLFILE [SHAPE]       commits a script's batches through a mirror
     vo_cli answer PUB JOURNAL QUERY [--at V]   writes the reply to a query
     vo_cli serve ADDR PUB JOURNAL COUNT        serves COUNT connections
-    vo_cli check PUB QUERY REPLY [--least L]   checks a reply and writes its rows
+    vo_cli check PUB QUERY REPLY [--least V]   checks a reply and writes its rows
     vo_cli ask ADDR PUB QUERY                  asks a mirror, checks its reply, writes the rows
-      [--at V] [--least L]
+      [--at V] [--least V]
     vo_cli audit PUB JOURNAL QUERY REPLY       writes what a reply is worth by the journal
       [--seed SEED [SHAPE]]                    and to the key's owner what gives a forger away
     vo_cli meet PUB QUERY REPLY REPLY          writes what two replies are to each other
@@ -24,9 +24,9 @@ usage:
 SEED, SQLFILE, PUB, JOURNAL and REPLY are files, QUERY is a text, and ADDR is as 127.0.0.1:7878.
 SHAPE is of the seed's key, and each time the same: [--height H] [--levels L], where H is 5, the
 default, or 10, and L is 1, the default, or 2.
-COUNT is at least 1. V is the version that is asked for, by default the newest; a mirror keeps the
-last 64. L is the last version seen, or 0 by default. N is 1 to 100000, and each NUMBER gives
-other commands.
+COUNT is at least 1. V is a version: of --at the one that is asked for, by default the newest, of
+which a mirror keeps the last 64; of --least the last that was seen, 0 by default. N is 1 to
+100000, and each NUMBER gives other commands.
 ";
 
 /// Whether the words of the command line ask for nothing.

@@ -89,16 +89,16 @@ module _ (reply seed : List ℕ) (shape : PlainShape) (bytes : List ℕ) (secret
           of_file (with_file known reply reply_limit) bytes (λ b. with_seed known seed shape (rest b)) r f
           (of_file (with_seed known seed shape) secret (rest bytes) r k a)
 
-module _ (name journal query key held : List ℕ) where
+module _ (name journal query : List ℕ) (at : Option ℕ) (key held : List ℕ) where
   pub answer_known : (o p : Option Files) (r : Result Report Stop) → p ≡ o → IfSome o (KeyIs name key) → IfSome p (FileIs journal journal_limit held)
-      → Answers (OfQuery query (λ z. Replies key held z)) r → IfSome o (λ known. Answers (answer_expected name journal query known) r)
+      → Answers (OfQuery query (λ z. Replies key held at z)) r → IfSome o (λ known. Answers (answer_expected name journal query at known) r)
   answer_known o p r same k j a = step o k (subst (λ z. IfSome z (FileIs journal journal_limit held)) same j)
     where
-      step : (o : Option Files) → IfSome o (KeyIs name key) → IfSome o (FileIs journal journal_limit held) → IfSome o (λ known. Answers (answer_expected name journal query known) r)
+      step : (o : Option Files) → IfSome o (KeyIs name key) → IfSome o (FileIs journal journal_limit held) → IfSome o (λ known. Answers (answer_expected name journal query at known) r)
       step None k j = tt
       step (Some known) k j =
-          of_file (with_key known name) key (λ x. with_file known journal journal_limit (λ y. OfQuery query (λ z. Replies x y z))) r k
-          (of_file (with_file known journal journal_limit) held (λ y. OfQuery query (λ z. Replies key y z)) r j a)
+          of_file (with_key known name) key (λ x. with_file known journal journal_limit (λ y. OfQuery query (λ z. Replies x y at z))) r k
+          (of_file (with_file known journal journal_limit) held (λ y. OfQuery query (λ z. Replies key y at z)) r j a)
 
 -- Scripts.
 

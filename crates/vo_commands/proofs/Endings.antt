@@ -5,7 +5,7 @@ use mathlib.Core.Logic.{inl, inr}
 use Rattle.outside.specs.Shelf.{Files}
 use Rattle.outside.specs.ConnectionModel.{ConnectionModel}
 use Rattle.outside.specs.DiskModel.{DiskModel}
-use Rattle.vo_words.specs.PlainRequest.{PlainRequest, Keygen, Seal, Own, Answer, Serve, Check, Ask, Audit, Explain, Meet}
+use Rattle.vo_words.specs.PlainRequest.{PlainRequest, Keygen, Seal, Own, Answer, Serve, Check, Ask, Audit, Explain, Meet, Generate}
 use Rattle.vo_commands.specs.declared.report.Report.{Report}
 use Rattle.vo_commands.specs.declared.report.Stop.{Stop}
 use Rattle.vo_commands.specs.declared.report.Stop.TheVariants.{Refused, Outside, Memory}
@@ -58,13 +58,14 @@ asks_nothing None files before wire is = is
 asks_nothing (Some (Keygen seed shape)) files before wire is = is
 asks_nothing (Some (Seal seed script shape)) files before wire is = is
 asks_nothing (Some (Own seed address script shape)) files before wire is = tt
-asks_nothing (Some (Answer key journal query)) files before wire is = is
+asks_nothing (Some (Answer key journal query at)) files before wire is = is
 asks_nothing (Some (Serve address key journal count)) files before wire is = tt
 asks_nothing (Some (Check key query reply least)) files before wire is = is
-asks_nothing (Some (Ask address key query least)) files before wire is = inl is
+asks_nothing (Some (Ask address key query at least)) files before wire is = inl is
 asks_nothing (Some (Audit key journal query reply)) files before wire is = is
 asks_nothing (Some (Explain key journal query reply seed shape)) files before wire is = is
 asks_nothing (Some (Meet key query first second)) files before wire is = is
+asks_nothing (Some (Generate steps number)) files before wire is = is
 
 -- the same of `own`
 pub own_ends_empty : (o : Option Expected) (FilesRose NetRose DiskRose OutRose : Type 0) (drive : Option DiskModel) (wire : Option ConnectionModel)

@@ -8,9 +8,9 @@ use Rattle.vo_spec.specs.Secret.{Secret, public_of_secret}
 use Rattle.owner_state.specs.declared.sealing.SealFault.{SealFault}
 use Rattle.owner_state.specs.declared.sealing.SealFault.TheVariants as seal
 use Rattle.vo_words.specs.Shapes.{PlainShape}
-use Rattle.vo_words.specs.PlainRequest.{PlainRequest, Keygen, Seal, Own, Answer, Serve, Check, Ask, Audit, Explain, Meet}
+use Rattle.vo_words.specs.PlainRequest.{PlainRequest, Keygen, Seal, Own, Answer, Serve, Check, Ask, Audit, Explain, Meet, Generate}
 use Rattle.vo_spec.specs.Keys.{is_public_key}
-use Rattle.vo_commands.specs.Lines.{input_refusal, success}
+use Rattle.vo_commands.specs.Lines.{gen_output, input_refusal, success}
 use Rattle.vo_commands.specs.Expected.{Expected, Anything, Exactly, Explains, OfScript, HoldsEach, file_words, files_of_request, files_expected, with_same_key, sealed_output, script_expected, script_limit, seal_output, seed_limit, secret_in, with_contents, with_file, with_public, with_secret, words_expected}
 use Rattle.vo_commands.specs.Taking.{LacksFile}
 
@@ -63,10 +63,10 @@ request_lacks_none (Seal seed text shape) known all =
     there _ _ _ _ all.0 (secret shape (λ key. with_file known text script_limit (script_expected key)) (λ key. there _ text script_limit (script_expected key) all.1.0 (script key)))
 request_lacks_none (Own seed address text shape) known all =
     there _ _ _ _ all.0 (secret shape (λ _. with_file known text script_limit (λ _. Anything)) (λ key. there _ text script_limit (λ _. Anything) all.1.0 (λ bytes lacks. lacks)))
-request_lacks_none (Answer key journal query) known all = there _ _ _ _ all.0 (public _ (λ k. there _ _ _ _ all.1.0 (λ bytes lacks. lacks.2)))
+request_lacks_none (Answer key journal query at) known all = there _ _ _ _ all.0 (public _ (λ k. there _ _ _ _ all.1.0 (λ bytes lacks. lacks.2)))
 request_lacks_none (Serve address key journal count) known all = there _ _ _ _ all.0 (public _ (λ k. there _ _ _ _ all.1.0 (λ bytes lacks. lacks)))
 request_lacks_none (Check key query reply least) known all = there _ _ _ _ all.0 (public _ (λ k lacks. there _ _ _ _ all.1.0 (λ bytes lacks. lacks) lacks.2))
-request_lacks_none (Ask address key query least) known all = there _ _ _ _ all.0 (public _ (λ k lacks. lacks))
+request_lacks_none (Ask address key query at least) known all = there _ _ _ _ all.0 (public _ (λ k lacks. lacks))
 request_lacks_none (Audit key journal query reply) known all =
     there _ _ _ _ all.0 (public _ (λ k. there _ _ _ _ all.1.0 (λ bytes lacks. there _ _ _ _ all.1.1.0 (λ bytes lacks. lacks) lacks.2)))
 request_lacks_none (Explain key journal query reply seed shape) known all =
@@ -76,6 +76,7 @@ request_lacks_none (Explain key journal query reply seed shape) known all =
     lacks.2)))
 request_lacks_none (Meet key query first second) known all =
     there _ _ _ _ all.0 (public _ (λ k lacks. there _ _ _ _ all.1.0 (λ one. there _ _ _ _ all.1.1.0 (λ other lacks. lacks)) lacks.2))
+request_lacks_none (Generate steps number) known all = λ lacks. other_status (gen_output steps number) (λ s. absurd (omega (arith, s))) lacks
 
 words_lack_none : (request : Option PlainRequest) (known : Files) → HoldsEach known (file_words request) → LacksFile (words_expected request known) → ⊥
 words_lack_none None known all lacks = refused (codes "words" ∷ []) lacks

@@ -1,7 +1,5 @@
-use Rattle.link_frames.specs.declared.frame_kind.FrameKind.TheVariants.{Query}
-use Rattle.link_frames.specs.Frames.{frame_bytes}
 use Rattle.vo_spec.specs.Conditions.{query_of}
-use Rattle.vo_commands.specs.Expected.{Checks, HasQuery, queue_of, with_reply}
+use Rattle.vo_commands.specs.Expected.{Checks, HasQuery, queue_of, question_frame, with_reply}
 use Rattle.vo_commands.proofs.CommandSteps.{of_query}
 use Rattle.vo_commands.proofs.NetSteps.{asks_where, reply_known}
 use Rattle.vo_commands.proofs.QueryTexts.{has_byte}
@@ -14,12 +12,12 @@ pub returns-clause-known : goal.returns-clause-known
 returns-clause-known g c =
     let wire = g.N.Link.wire c.args.net.now in
     of_query c.args.query.now (query_of c.in_ok-text.text)
-    (λ q. with_reply (queue_of wire) (λ reply. Checks c.args.key c.args.least q reply)) c.ask_store-report.result
+    (λ q. with_reply (queue_of wire) (λ reply. Checks c.args.key c.args.versions.at c.args.versions.least q reply)) c.ask_store-report.result
     c.in_ok-text.ensures
-    (reply_known wire (λ reply. Checks c.args.key c.args.least (query_of c.in_ok-text.text) reply) c.ask_store-report.result
+    (reply_known wire (λ reply. Checks c.args.key c.args.versions.at c.args.versions.least (query_of c.in_ok-text.text) reply) c.ask_store-report.result
     c.ask_store-report.ensures.known)
 
 pub returns-clause-asks : goal.returns-clause-asks
 returns-clause-asks g c =
-    λ before is. asks_where (HasQuery c.args.query.now) (frame_bytes Query c.args.query.now) before _
+    λ before is. asks_where (HasQuery c.args.query.now) (question_frame c.args.versions.at c.args.query.now) before _
     (query_of c.in_ok-text.text, c.in_ok-text.ensures) (c.ask_store-report.ensures.asks before is)

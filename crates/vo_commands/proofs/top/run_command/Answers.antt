@@ -5,7 +5,7 @@ use Rattle.vo_commands.proofs.top.run_command.Goals as goal
 
 pub returns-in-Ask-clause-known : goal.returns-in-Ask-clause-known
 returns-in-Ask-clause-known g c =
-    rw c.in-Ask.is (by_files (λ known. ask_expected c.in-Ask.key.now c.in-Ask.query.now c.in-Ask.least known (queue_of (g.N.Link.wire c.args.net.now)))
+    rw c.in-Ask.is (by_files (λ known. ask_expected c.in-Ask.key.now c.in-Ask.query.now c.in-Ask.at c.in-Ask.least known (queue_of (g.N.Link.wire c.args.net.now)))
     (λ expected. Answers expected c.ask.result) _ c.ask.ensures.known)
 
 pub returns-in-Seal-clause-files : goal.returns-in-Seal-clause-files
