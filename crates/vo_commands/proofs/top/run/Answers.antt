@@ -13,7 +13,7 @@ pub returns-in-Ok-Some-Command-clause-lines : goal.returns-in-Ok-Some-Command-cl
 returns-in-Ok-Some-Command-clause-lines g c =
     let some = c.in-Ok-Some-Command.field-0-is ∙ ap Some c.in-Ok-Some-Command.field-0-0-is in
     let asked : Some (plain_command c.in-Ok-Some-Command.command) ≡ request_in (map string_bytes c.args.words.now) =
-    sym (ap (option_map plain_request) some) ∙ c.in-Ok-Some-Command.ensures in
+    sym (ap (option_map plain_request) some) ∙ c.in-Ok-Some-Command.ensures.request in
     command_ends (plain_command c.in-Ok-Some-Command.command) (request_in (map string_bytes c.args.words.now)) _ _ c.run_command-outcome.result _ _ _ _ _
     asked c.run_command-outcome.ensures.known c.run_command-outcome.ensures.cause c.print_outcome.ensures.wrote
 
@@ -33,7 +33,7 @@ pub returns-in-Ok-Some-Command-clause-misses_in_order : goal.returns-in-Ok-Some-
 returns-in-Ok-Some-Command-clause-misses_in_order g c =
     let some = c.in-Ok-Some-Command.field-0-is ∙ ap Some c.in-Ok-Some-Command.field-0-0-is in
     let asked : Some (plain_command c.in-Ok-Some-Command.command) ≡ request_in (map string_bytes c.args.words.now) =
-    sym (ap (option_map plain_request) some) ∙ c.in-Ok-Some-Command.ensures in
+    sym (ap (option_map plain_request) some) ∙ c.in-Ok-Some-Command.ensures.request in
     subst (λ request. IfSome (g.F.Shelf.contents c.args.files.now) (λ known. (LacksFile (words_expected request known) → ⊥)
     → g.F.Shelf.misses c.run_command-outcome.new.files ≡ g.F.Shelf.misses c.args.files.now)) asked c.run_command-outcome.ensures.files.missed
 
@@ -45,7 +45,7 @@ pub returns-in-Ok-Some-Serve-clause-misses_in_order : goal.returns-in-Ok-Some-Se
 returns-in-Ok-Some-Serve-clause-misses_in_order g c =
     let some = c.in-Ok-Some-Serve.field-0-is ∙ ap Some c.in-Ok-Some-Serve.field-0-0-is in
     let asked : option_map plain_request (Some (Serve c.in-Ok-Some-Serve.service)) ≡ request_in (map string_bytes c.args.words.now) =
-    sym (ap (option_map plain_request) some) ∙ c.in-Ok-Some-Serve.ensures in
+    sym (ap (option_map plain_request) some) ∙ c.in-Ok-Some-Serve.ensures.request in
     subst (λ request. IfSome (g.F.Shelf.contents c.args.files.now) (λ known. (LacksFile (words_expected request known) → ⊥)
     → g.F.Shelf.misses c.serve.new.files ≡ g.F.Shelf.misses c.args.files.now)) asked c.serve.ensures.files.missed
 
@@ -56,6 +56,6 @@ pub returns-in-Ok-Some-Own-clause-misses_in_order : goal.returns-in-Ok-Some-Own-
 returns-in-Ok-Some-Own-clause-misses_in_order g c =
     let some = c.in-Ok-Some-Own.field-0-is ∙ ap Some c.in-Ok-Some-Own.field-0-0-is in
     let asked : option_map plain_request (Some (Own c.in-Ok-Some-Own.commitment)) ≡ request_in (map string_bytes c.args.words.now) =
-    sym (ap (option_map plain_request) some) ∙ c.in-Ok-Some-Own.ensures in
+    sym (ap (option_map plain_request) some) ∙ c.in-Ok-Some-Own.ensures.request in
     subst (λ request. IfSome (g.F.Shelf.contents c.args.files.now) (λ known. (LacksFile (words_expected request known) → ⊥)
     → g.F.Shelf.misses c.own.new.files ≡ g.F.Shelf.misses c.args.files.now)) asked c.own.ensures.files.missed

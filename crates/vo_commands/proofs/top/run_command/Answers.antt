@@ -25,3 +25,6 @@ returns-in-Keygen-clause-files g c = rw c.in-Keygen.is c.keygen.ensures.files.le
 
 pub returns-in-Audit-clause-files : goal.returns-in-Audit-clause-files
 returns-in-Audit-clause-files g c = rw c.in-Audit.is c.audit.ensures.files.leaves
+
+pub returns-in-Generate-clause-known : goal.returns-in-Generate-clause-known
+returns-in-Generate-clause-known g c = rw c.in-Generate.is c.generate.ensures.known
