@@ -18,4 +18,7 @@ pub mod RowLaws
 pub mod ShapeLaws
 pub mod TreeWords
 pub mod NoTarget
+pub mod ValueLaws
 pub mod PlaceLaws
+pub mod KeepingLaws
+pub mod HeldLaws

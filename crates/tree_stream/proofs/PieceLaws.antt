@@ -137,6 +137,15 @@ empty_short state bytes is = let size : token_size state bytes ≡ token_size st
 
 -- Calls.
 
+-- what is behind some bytes of a piece, where nothing is held in front of it
+pub ok_ends : (r : Result (Bor (List ℕ)) AllocError) (old new : Machine) (bytes kept : List ℕ) → IfOk r (λ left. Advances old new bytes (kept ++ left.now)) → IfOk r (λ left. EndsWith bytes left.now)
+ok_ends (Ok left) old new bytes kept a = (a.taken ++ kept, a.parts ∙ sym (append_assoc a.taken kept left.now))
+ok_ends (Err e) old new bytes kept a = tt
+
+pub ends_later : (r : Result (Bor (List ℕ)) AllocError) (piece left : List ℕ) → EndsWith piece left → IfOk r (λ end. EndsWith left end.now) → IfOk r (λ end. EndsWith piece end.now)
+ends_later (Ok end) piece left a b = (a.0 ++ b.0, a.1 ∙ ap (λ (t : List ℕ). a.0 ++ t) b.1 ∙ sym (append_assoc a.0 b.0 end.now))
+ends_later (Err e) piece left a b = tt
+
 pub ok_of : {T E : Type 0} (r : Result T E) (P : Type 0) → IsOk r → OnOk r P → P
 ok_of (Ok x) P is p = p
 ok_of (Err e) P is p = absurd (false≢true is)
@@ -311,22 +320,33 @@ stops_later first old partial piece kept left none a ends same stops =
 -- The stream, in the bytes of a tree.
 
 pub behind_piece : (r : Result (Bor (List ℕ)) AllocError) (old new : TreeStream) (piece : List ℕ) → IfOk r (λ left. Advances old.machine new.machine (old.partial.items ++ piece) (new.partial.items ++ left.now))
-    → IfOk r (λ left. left.now ≡ [] → (bytes : List ℕ) → IsBehind old bytes → IsBehind new (bytes ++ piece))
-behind_piece (Ok left) old new piece a = λ none bytes b. record {
-  taken = b.taken ++ a.taken;
-  at = a.moves b.taken b.at;
-  parts =
-      ap (λ (t : List ℕ). t ++ piece) b.parts
-      ∙ append_assoc b.taken old.partial.items piece
-      ∙ ap (λ (t : List ℕ). b.taken ++ t) (a.parts ∙ ap (λ (t : List ℕ). a.taken ++ t) (ap (λ (t : List ℕ). new.partial.items ++ t) none ∙ append-nil new.partial.items))
-      ∙ sym (append_assoc b.taken a.taken new.partial.items);
-}
-behind_piece (Err e) old new piece a = tt
+    → IfOk r (λ left. EndsWith piece left.now)
+    → IfOk r (λ left. (bytes : List ℕ) → IsBehind old bytes → (front : List ℕ) × (piece ≡ front ++ left.now) × IsBehind new (bytes ++ front))
+behind_piece (Ok left) old new piece a ends = λ bytes b.
+    let front : List ℕ = ends.0 in
+    let all : (old.partial.items ++ front) ++ left.now ≡ (a.taken ++ new.partial.items) ++ left.now =
+    append_assoc old.partial.items front left.now
+    ∙ ap (λ (t : List ℕ). old.partial.items ++ t) (sym ends.1)
+    ∙ a.parts
+    ∙ sym (append_assoc a.taken new.partial.items left.now) in (
+      front,
+      ends.1,
+      record {
+        taken = b.taken ++ a.taken;
+        at = a.moves b.taken b.at;
+        parts =
+            ap (λ (t : List ℕ). t ++ front) b.parts
+            ∙ append_assoc b.taken old.partial.items front
+            ∙ ap (λ (t : List ℕ). b.taken ++ t) (same_front (old.partial.items ++ front) (a.taken ++ new.partial.items) left.now all)
+            ∙ sym (append_assoc b.taken a.taken new.partial.items);
+      },
+    )
+behind_piece (Err e) old new piece a ends = tt
 
 pub has_needed_byte : (old : TreeStream) (piece bytes : List ℕ) → StopsInRow old.machine old.partial.items piece → IsBehind old bytes → HasNeededByte (target_in old).interval bytes piece
 has_needed_byte old piece bytes s b =
     let context = s.reached.context in
-    let e = ends_in_row context s.reached.state (b.taken ++ s.taken) s.part (s.moves b.taken b.at) s.inside s.short in
+    let e = ends_in_row context s.reached.state (b.taken ++ s.taken) s.part (s.moves b.taken b.at).0 s.inside s.short in
     let P : List ℕ → Type 0 = λ t. EndsInRow context.last_key.items t in
     let Q : Target → Type 0 = λ target. IsTrue (in_interval target.interval context.last_key.items) in
     let is : (b.taken ++ s.taken) ++ s.part ≡ bytes ++ s.front =

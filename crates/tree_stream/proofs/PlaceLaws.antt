@@ -1,5 +1,5 @@
 -- Where a machine stands in the bytes of a tree, step by step.
-use Rattle.std.proofs.Common.{◌≡◌, ℕ, suc, Result, Ok, Err, ◌+◌, ◌<◌, ◌≤◌, List, [], ◌∷◌, ◌++◌, length, flat_map, refl, sym, ap, subst, ◌∙◌, append_assoc, append-nil, arith, inl, inr}
+use Rattle.std.proofs.Common.{◌≡◌, ℕ, suc, Bool, Result, Ok, Err, ◌+◌, ◌<◌, ◌≤◌, List, [], ◌∷◌, ◌++◌, length, flat_map, refl, sym, ap, subst, ◌∙◌, append_assoc, append-nil, arith, inl, inr}
 use Rattle.std.specs.Prelude.{IfOk, IsTrue, reverse}
 use Rattle.std.specs.declared.alloc.AllocError.{AllocError}
 use Rattle.std.specs.List.{AllByRecursion}
@@ -22,11 +22,13 @@ use Rattle.tree_stream.specs.declared.state.InnerNode.{InnerNode}
 use Rattle.tree_stream.specs.declared.state.State.{State}
 use Rattle.tree_stream.specs.declared.state.OpenRow.{OpenRow}
 use Rattle.tree_stream.specs.declared.state.State.TheVariants.{Node, Separator, Key, Row, Cell as CellState, Complete, Invalid}
+use Rattle.tree_stream.specs.Keeping.{ValuesGrow}
 use Rattle.tree_stream.specs.Machines.{TakesCells}
 use Rattle.tree_stream.specs.Places.{EndsInRow, IsCellsFront, IsEntryPlace, IsInnerFront, IsLeafFront, IsNodePlace}
 use Rattle.tree_stream.specs.Summaries.{IsInNeededRow}
 use Rattle.tree_stream.specs.Tokens.{cell_size, row_size, token_size}
 use Rattle.tree_stream.proofs.StateLaws.{cell_token, row_token}
+use Rattle.tree_stream.proofs.ValueLaws.{grow_more, no_more}
 use Rattle.tree_stream.specs.Positions.{IsBelow, IsInSeparators, IsInLeaf, IsBehindKey, IsInCells, StandsAt}
 
 pub mapped_push : {X : Type 0} (f : X → List ℕ) (xs : List X) (x : X) → flat_map f (xs ++ x ∷ []) ≡ flat_map f xs ++ f x
@@ -294,12 +296,16 @@ cell_added ancestors behind column left key token cell context (Err e) is fits s
 
 -- Cells that are passed over.
 
-pub no_cells_taken : (row : OpenRow) (bytes : List ℕ) → TakesCells row row bytes bytes
-no_cells_taken row bytes = record { cells = []; parts = refl; column = omega arith; left = omega arith; behind = refl; fit = All-nil FitsCell }
+pub no_cells_taken : (needed : Bool) (row : OpenRow) (bytes : List ℕ) → TakesCells needed row row bytes bytes
+no_cells_taken needed row bytes = record { cells = []; parts = refl; column = omega arith; left = omega arith; behind = refl; fit = All-nil FitsCell; grown = no_more needed row.findings.values }
 
-pub next_cell_taken : (first old new : OpenRow) (bytes left token rest : List ℕ) (cell : Cell) → TakesCells first old bytes left → left ≡ token ++ rest → token ≡ cell_form cell → FitsCell cell
-    → suc new.left ≡ old.left → new.column ≡ old.column + 1 → new.leaf.left ≡ old.leaf.left → TakesCells first new bytes rest
-next_cell_taken first old new bytes left token rest cell t parts is fits count column behind =
+pub next_cell_taken : (needed : Bool) (first old new : OpenRow) (bytes left token rest : List ℕ) (cell : Cell) → TakesCells needed first old bytes left → left ≡ token ++ rest → token ≡ cell_form cell → FitsCell cell
+    → suc new.left ≡ old.left → new.column ≡ old.column + 1 → new.leaf.left ≡ old.leaf.left
+    → ValuesGrow needed old.findings.values new.findings.values (length (cell_form cell)) → TakesCells needed first new bytes rest
+next_cell_taken needed first old new bytes left token rest cell t parts is fits count column behind grow =
+    let P : ℕ → Type 0 = λ m. ValuesGrow needed first.findings.values new.findings.values m in
+    let size : length (flat_map cell_form t.cells) + length (cell_form cell) ≡ length (flat_map cell_form (t.cells ++ cell ∷ [])) =
+    sym (ap (λ (l : List ℕ). length l) (mapped_push cell_form t.cells cell) ∙ length-append (flat_map cell_form t.cells) (cell_form cell)) in
     let n : length (t.cells ++ cell ∷ []) ≡ length t.cells + 1 = length-append t.cells (cell ∷ []) in
     record {
       cells = t.cells ++ cell ∷ [];
@@ -312,11 +318,12 @@ next_cell_taken first old new bytes left token rest cell t parts is fits count c
       left = omega (arith, n, t.left, count);
       behind = behind ∙ t.behind;
       fit = All-push FitsCell t.cells cell t.fit fits;
+      grown = subst P size (grow_more needed first.findings.values old.findings.values new.findings.values (length (flat_map cell_form t.cells)) (length (cell_form cell)) t.grown grow);
     }
 
-pub cells_moved : (ancestors : List InnerNode) (key : List ℕ) (old new : OpenRow) (bytes rest taken before : List ℕ) → TakesCells old new bytes rest → bytes ≡ taken ++ rest
+pub cells_moved : (needed : Bool) (ancestors : List InnerNode) (key : List ℕ) (old new : OpenRow) (bytes rest taken before : List ℕ) → TakesCells needed old new bytes rest → bytes ≡ taken ++ rest
     → IsInCells ancestors old.leaf.left key old.column (suc old.left) before → IsInCells ancestors new.leaf.left key new.column (suc new.left) (before ++ taken)
-cells_moved ancestors key old new bytes rest taken before t parts at =
+cells_moved needed ancestors key old new bytes rest taken before t parts at =
     let is : flat_map cell_form t.cells ≡ taken = append_cancel_right (flat_map cell_form t.cells) taken rest (sym t.parts ∙ parts) in
     let n : new.column + suc new.left ≡ old.column + suc old.left = omega (arith, t.column, t.left) in
     let P : ℕ → Type 0 = λ behind. IsBehindKey ancestors behind key at.before in
@@ -341,7 +348,7 @@ pub node_place : (nodes : List InnerNode) (bytes : List ℕ) → IsBelow nodes b
 node_place [] bytes below = below
 node_place (node ∷ nodes) bytes below = (below.0, below.1, length node.child_visits.items, node_place nodes below.0 below.2, below.3, below.4)
 
-entry_place : (ancestors : List InnerNode) (left : ℕ) (bytes : List ℕ) → IsInLeaf ancestors (suc left) bytes → IsEntryPlace bytes
+pub entry_place : (ancestors : List InnerNode) (left : ℕ) (bytes : List ℕ) → IsInLeaf ancestors (suc left) bytes → IsEntryPlace bytes
 entry_place ancestors left bytes at = record {
   depth = length (reverse ancestors);
   above = at.above;
@@ -398,17 +405,3 @@ ends_in_row context (Separator head) taken part at inside short = absurd inside
 ends_in_row context (Key entry) taken part at inside short = absurd inside
 ends_in_row context (Complete digest) taken part at inside short = absurd inside
 ends_in_row context Invalid taken part at inside short = absurd inside
-
--- A step from a state.
-
-pub stands_from : (context new : Context) (next state is : State) (token : List ℕ) → state ≡ is → ((bytes : List ℕ) → StandsAt context is bytes → StandsAt new next (bytes ++ token))
-    → (bytes : List ℕ) → StandsAt context state bytes → StandsAt new next (bytes ++ token)
-stands_from context new next state is token e stands = λ bytes at.
-    let P : State → Type 0 = λ s. StandsAt context s bytes in
-    stands bytes (subst P e at)
-
-pub ok_stands_from : (context new : Context) (r : Result State AllocError) (state is : State) (token : List ℕ) → state ≡ is
-    → IfOk r (λ next. (bytes : List ℕ) → StandsAt context is bytes → StandsAt new next (bytes ++ token))
-    → IfOk r (λ next. (bytes : List ℕ) → StandsAt context state bytes → StandsAt new next (bytes ++ token))
-ok_stands_from context new (Ok next) state is token e stands = stands_from context new next state is token e stands
-ok_stands_from context new (Err fault) state is token e stands = tt

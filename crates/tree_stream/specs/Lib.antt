@@ -2,6 +2,7 @@ pub mod Findings
 pub mod Tokens
 pub mod Places
 pub mod Positions
+pub mod Keeping
 pub mod Parsing
 pub mod Remaining
 pub mod Summaries

@@ -1,5 +1,5 @@
 -- What a machine takes of bytes, and what comes of those behind them.
-use Rattle.std.specs.Prelude.{◌≡◌, ℕ, suc, ◌+◌, ◌<◌, List, ◌++◌, All, length, flat_map}
+use Rattle.std.specs.Prelude.{◌≡◌, ℕ, suc, ◌+◌, ◌<◌, Bool, List, ◌++◌, All, length, flat_map}
 use Rattle.batch_format.specs.BatchReading.{Reader}
 use Rattle.tree_stream.specs.declared.findings.Summary.{Summary}
 use Rattle.tree_stream.specs.declared.machine.Machine.{Machine}
@@ -9,6 +9,7 @@ use Rattle.tree_stream.specs.declared.state.OpenRow.{OpenRow}
 use Rattle.vo_spec.specs.declared.cells.Cell.{Cell}
 use Rattle.vo_spec.specs.Fits.{FitsCell}
 use Rattle.vo_spec.specs.TreeBytes.{cell_form}
+use Rattle.tree_stream.specs.Keeping.{KeepsAt, ValuesGrow}
 use Rattle.tree_stream.specs.Positions.{StandsAt}
 use Rattle.tree_stream.specs.Remaining.{rest_of_cells}
 use Rattle.tree_stream.specs.Summaries.{summary_by, summary_from, IsInNeededRow}
@@ -26,9 +27,10 @@ row_summary context row hashed bytes = summary_by context
     (rest_of_cells context.target row.leaf.hasher context.last_key.items row.leaf.left hashed
     row.column row.findings (suc row.left)) bytes
 
--- the machine stands behind these bytes of a tree
+-- the machine stands behind these bytes of a tree, of whose needed entries it keeps what it keeps
 abbrev pub IsAt : Machine → List ℕ → Type 0
 IsAt machine bytes = StandsAt machine.context machine.state bytes
+    × KeepsAt machine.context machine.state bytes
 
 -- the machine took these bytes
 pub record Takes (old new : Machine) (bytes : List ℕ) : Type 0 where
@@ -48,14 +50,17 @@ pub record Advances (old new : Machine) (bytes left : List ℕ) : Type 0 where
   pub each : (rest : List ℕ) → summary_of_machine new rest ≡ summary_of_machine old (taken ++ rest)
   pub moves : (before : List ℕ) → IsAt old before → IsAt new (before ++ taken)
 
--- the row took the cells in front of these bytes, and left the bytes behind them
-pub record TakesCells (old new : OpenRow) (bytes rest : List ℕ) : Type 0 where
+-- the row, which is needed or not, took the cells in front of these bytes, and left the bytes
+-- behind them
+pub record TakesCells (is_needed : Bool) (old new : OpenRow) (bytes rest : List ℕ) : Type 0 where
   pub cells : List Cell
   pub parts : bytes ≡ flat_map cell_form cells ++ rest
   pub column : new.column ≡ old.column + length cells
   pub left : new.left + length cells ≡ old.left
   pub behind : new.leaf.left ≡ old.leaf.left
   pub fit : All FitsCell cells
+  pub grown : ValuesGrow is_needed old.findings.values new.findings.values
+      (length (flat_map cell_form cells))
 
 abbrev pub EndsWith : List ℕ → List ℕ → Type 0
 EndsWith bytes end = (front : List ℕ) × (bytes ≡ front ++ end)

@@ -3,13 +3,14 @@
 use Rattle.std.specs.Prelude.{◌≡◌, ◌⊎◌, ℕ, zero, suc, ◌+◌, ◌≤◌, ◌<◌, IsTrue, List, [], ◌∷◌, ◌++◌, All, length, flat_map}
 use Rattle.vo_spec.specs.declared.cells.Cell.{Cell}
 use Rattle.vo_spec.specs.declared.cells.PartEntry.{PartEntry}
+use Rattle.vo_spec.specs.declared.cells.RowPart.{RowPart}
 use Rattle.vo_spec.specs.declared.keys.Interval.{Interval}
 use Rattle.vo_spec.specs.Bytes.{string}
-use Rattle.vo_spec.specs.Fits.{FitsCell, FitsEntry, FitsKey, FitsPart, max_cells, max_fill}
+use Rattle.vo_spec.specs.Fits.{FitsCell, FitsEntry, FitsKey, FitsPart, FitsRowPart, max_cells, max_fill}
 use Rattle.vo_spec.specs.Scans.{in_interval}
-use Rattle.vo_spec.specs.TreeBytes.{cell_form, entry_form, tree_bytes}
+use Rattle.vo_spec.specs.TreeBytes.{cell_form, entry_form, row_form, tree_bytes}
 use Rattle.vo_spec.specs.Trees.{RowTree}
-use Rattle.tree_stream.specs.Tokens.{cell_size, row_size}
+use Rattle.tree_stream.specs.Tokens.{cell_size, max_token, row_size}
 
 -- the bytes are an inner node up to the end of one of its children, behind which so many come
 pub record IsInnerFront (bytes : List ℕ) (left : ℕ) : Type 0 where
@@ -79,3 +80,36 @@ pub record HasNeededByte (interval : Interval) (bytes piece : List ℕ) : Type 0
   pub some : 0 < length left
   pub inside : EndsInRow key (bytes ++ front)
   pub needed : IsTrue (in_interval interval key)
+
+-- the bytes are a whole row
+abbrev pub IsRow : List ℕ → Type 0
+IsRow bytes = (row : RowPart) × FitsRowPart row × (bytes ≡ row_form row)
+
+-- behind these bytes of a tree comes an entry whose key is in the interval, as far as it came
+pub record IsNeededEntry (interval : Interval) (before entry : List ℕ) : Type 0 where
+  pub key : List ℕ
+  pub row : List ℕ
+  pub place : IsEntryPlace before
+  pub fits : FitsKey key
+  pub front : IsRowFront row ⊎ IsRow row
+  pub parts : entry ≡ string key ++ row
+  pub needed : IsTrue (in_interval interval key)
+
+-- such entries stand in these bytes of a tree, none over another; the last is given first
+abbrev pub AreNeededEntries : Interval → List (List ℕ) → List ℕ → Type 0
+AreNeededEntries interval [] bytes = Unit {0}
+AreNeededEntries interval (entry ∷ entries) bytes = (before behind : List ℕ)
+    × AreNeededEntries interval entries before × IsNeededEntry interval before entry
+    × (bytes ≡ before ++ (entry ++ behind))
+
+-- so many bytes of these of a tree, or more, are of entries whose keys are in the interval
+pub record HasNeededEntries (interval : Interval) (bytes : List ℕ) (count : ℕ) : Type 0 where
+  pub entries : List (List ℕ)
+  pub are_needed : AreNeededEntries interval entries bytes
+  pub within : count ≤ length (flat_map (λ (entry : List ℕ). entry) entries)
+
+-- so many are, and those of a token, or more
+pub record HasNeededAndToken (interval : Interval) (bytes : List ℕ) (count : ℕ) : Type 0 where
+  pub needed : ℕ
+  pub has_needed : HasNeededEntries interval bytes needed
+  pub within : count ≤ needed + max_token

@@ -7,6 +7,10 @@ use Rattle.vo_spec.specs.Tables.{max_key}
 use Rattle.tree_stream.specs.declared.state.State.{State}
 use Rattle.tree_stream.specs.declared.state.State.TheVariants.{Node, Separator, Key, Row, Cell, Complete, Invalid}
 
+-- the most bytes of a token
+abbrev pub max_token : ℕ
+max_token = 1028
+
 -- a stub, or the first byte and the count of an open node
 unfoldable pub node_size : List ℕ → ℕ
 node_size [] = 1

@@ -3,6 +3,7 @@ ghost use Rattle.std.specs.Prelude.{◌≡◌, ◌-◌, ◌<◌, ◌++◌, ℕ, 
 ghost use Rattle.vo_spec.specs.Fits.{FitsPart};
 ghost use Rattle.vo_spec.specs.TreeBytes.{tree_bytes};
 ghost use Rattle.vo_spec.specs.Trees.{RowTree};
+ghost use Rattle.tree_stream.specs.Keeping.{KeepsAt, KeepsRows};
 ghost use Rattle.tree_stream.specs.Places.{IsInnerFront};
 ghost use Rattle.tree_stream.specs.Positions.{IsBelow, StandsAt};
 ghost use Rattle.tree_stream.specs.Remaining.{rest_of_children};
@@ -21,6 +22,8 @@ pub(crate) fn next_child(context: &mut Context, node: InnerNode) -> State
     ensures stands { (above parent : List ℕ) → IsBelow (reverse context.old.ancestors.items) above
         → IsInnerFront parent (length node.child_visits.items)
         → StandsAt context.new result (above ++ parent) }
+    ensures keeps { (bytes : List ℕ) → KeepsRows context.old bytes
+        → KeepsAt context.new result bytes }
     ensures target { context.new.target ≡ context.old.target }
 {
     if context.ancestors.is_full() {
@@ -45,6 +48,8 @@ pub(crate) fn end_node(context: &mut Context, digest: Digest) -> State
     ensures stands { (above : List ℕ) (p : RowTree)
         → IsBelow (reverse context.old.ancestors.items) above → FitsPart p
         → StandsAt context.new result (above ++ tree_bytes p) }
+    ensures keeps { (bytes : List ℕ) → KeepsRows context.old bytes
+        → KeepsAt context.new result bytes }
     ensures target { context.new.target ≡ context.old.target }
 {
     match context.ancestors.pop() {

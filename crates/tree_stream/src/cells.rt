@@ -5,6 +5,7 @@ ghost use Rattle.vo_spec.specs.Fits.{FitsCell, max_cells};
 ghost use Rattle.vo_spec.specs.TreeBytes.{cell_form};
 ghost use Rattle.tree_stream.specs.Findings.{columns_at as columns_of};
 ghost use Rattle.tree_stream.specs.Machines.{Advances, Passes, TakesCells, machine_of, row_summary};
+ghost use Rattle.tree_stream.specs.Keeping.{KeepsAt, KeepsInCells, ValuesGrow};
 ghost use Rattle.tree_stream.specs.Parsing.{BeginsCell, IsEncoded, cell_of};
 ghost use Rattle.tree_stream.specs.Positions.{IsInCells, StandsAt};
 ghost use Rattle.tree_stream.specs.Remaining.{rest_of_cells};
@@ -57,6 +58,9 @@ pub(crate) fn take_cell(
     ensures stands { IfOk result (λ state. (bytes : List ℕ)
         → IsInCells context.old.ancestors.items row.leaf.left context.old.last_key.items row.column
         (suc row.left) bytes → StandsAt context.new state (bytes ++ token.now)) }
+    ensures keeps { IfOk result (λ state. (bytes : List ℕ)
+        → KeepsInCells context.old row.column (suc row.left) row.findings.values bytes
+        → KeepsAt context.new state (bytes ++ token.now)) }
     ensures good { IsErr result → BeginsCell token.now }
     ensures memory { IsErr result → IsTrue (is_needed_row context.old) }
     ensures target { context.new.target ≡ context.old.target }
@@ -83,6 +87,9 @@ fn add_whole_cell(
     ensures stands { IfOk result (λ state. (bytes : List ℕ)
         → IsInCells context.old.ancestors.items row.leaf.left context.old.last_key.items row.column
         (suc row.left) bytes → StandsAt context.new state (bytes ++ token.now)) }
+    ensures keeps { IfOk result (λ state. (bytes : List ℕ)
+        → KeepsInCells context.old row.column (suc row.left) row.findings.values bytes
+        → KeepsAt context.new state (bytes ++ token.now)) }
     ensures memory { IsErr result → IsTrue (is_needed_row context.old) }
     ensures target { context.new.target ≡ context.old.target }
 {
@@ -133,7 +140,8 @@ fn gather_cells<'b>(
     ensures ok { IfOk result (λ left. Passes (row_summary context.now row.old row.old.hasher)
         (row_summary context.now row.new (row.new.hasher ++ digests.new.items))
         bytes.now left.now) }
-    ensures cells { IfOk result (λ left. TakesCells row.old row.new bytes.now left.now) }
+    ensures cells { IfOk result (λ left.
+        TakesCells (is_needed_row context.now) row.old row.new bytes.now left.now) }
     ensures way { IsErr result → CanEnd (row_summary context.now row.old row.old.hasher) }
     ensures memory { IsErr result → IsTrue (is_needed_row context.now) }
     ensures some { IsErr result → 0 < length bytes.now }
@@ -189,6 +197,8 @@ fn pass_cell(
     ensures column { OnOk result (row.new.column ≡ row.old.column + 1) }
     ensures behind { OnOk result (row.new.leaf.left ≡ row.old.leaf.left) }
     ensures room { OnOk result (length digests.new.items ≤ 32 * row.new.column) }
+    ensures grown { OnOk result (ValuesGrow (is_needed_row context.now) row.old.findings.values
+        row.new.findings.values (length (cell_form (cell_of cell.now)))) }
     ensures memory { IsErr result → IsTrue (is_needed_row context.now) }
 {
     let is_named = has_column(named, row.column);

@@ -1,5 +1,8 @@
 //! What is found in a tree that is read for a target.
+ghost use Rattle.std.specs.Prelude.{◌≡◌, ◌-◌, ◌^◌, length, min};
+ghost use Rattle.tree_stream.specs.Keeping.{rows_bytes};
 
+use crate::held::rows_length;
 use vo_spec::{Digest, List, SeenRow, Value};
 
 /// What is found in a tree, or in a part of one.
@@ -20,6 +23,15 @@ pub struct Findings {
 pub struct Summary {
     pub digest: Digest,
     pub findings: Findings,
+}
+
+impl Summary {
+    /// How many bytes the keys of the rows have, and their values as they are encoded.
+    pub fn held(&self) -> usize
+        ensures { result ≡ min (length (rows_bytes self.now.findings.rows)) (2 ^ 64 - 1) }
+    {
+        rows_length(self.findings.rows.as_slice())
+    }
 }
 
 /// What is found in the cells of one row, with the values of named columns.

@@ -4,6 +4,7 @@ ghost use Rattle.std.specs.Option.{option_copied};
 ghost use Rattle.vo_spec.specs.Fits.{max_fill};
 ghost use Rattle.vo_spec.specs.Tables.{max_key};
 ghost use Rattle.tree_stream.specs.Findings.{visits_child as visits_between};
+ghost use Rattle.tree_stream.specs.Keeping.{KeepsAt, KeepsRows};
 ghost use Rattle.tree_stream.specs.Positions.{IsInSeparators, StandsAt};
 ghost use Rattle.tree_stream.specs.Remaining.{lower_separator as separator_below, rest_of_inner};
 ghost use Rattle.tree_stream.specs.Summaries.{Yields, levels_below, summary_by};
@@ -49,6 +50,8 @@ pub(crate) fn next_separator(
     ensures stands { (bytes : List ℕ)
         → IsInSeparators context.old.ancestors.items (length child_visits.items) left bytes
         → StandsAt context.new result bytes }
+    ensures keeps { (bytes : List ℕ) → KeepsRows context.old bytes
+        → KeepsAt context.new result bytes }
     ensures target { context.new.target ≡ context.old.target }
 {
     if left > 0 {
@@ -81,6 +84,8 @@ pub(crate) fn take_separator(context: &mut Context, head: InnerHead, token: &[u8
     ensures stands { (bytes : List ℕ) → IsInSeparators context.old.ancestors.items
         (length head.child_visits.items) (suc head.left) bytes
         → StandsAt context.new result (bytes ++ token.now) }
+    ensures keeps { (bytes : List ℕ) → KeepsRows context.old bytes
+        → KeepsAt context.new result (bytes ++ token.now) }
     ensures target { context.new.target ≡ context.old.target }
 {
     match parse_key(token) {

@@ -5,6 +5,7 @@ ghost use Rattle.vo_spec.specs.Fits.{FitsRowPart, max_cells};
 ghost use Rattle.vo_spec.specs.Tables.{max_key};
 ghost use Rattle.vo_spec.specs.TreeBytes.{row_form};
 ghost use Rattle.tree_stream.specs.Findings.{entry_findings_by};
+ghost use Rattle.tree_stream.specs.Keeping.{KeepsAt, KeepsBehindKey, KeepsInCells, KeepsRows, values_bytes};
 ghost use Rattle.tree_stream.specs.Parsing.{BeginsRow};
 ghost use Rattle.tree_stream.specs.Positions.{IsBehindKey, IsInCells, IsInLeaf, StandsAt};
 ghost use Rattle.tree_stream.specs.Remaining.{rest_of_cells, rest_of_leaf, rest_of_row, with_findings};
@@ -28,6 +29,8 @@ pub(crate) fn next_entry(context: &mut Context, hasher: RunningHash, left: u8) -
         (rest_of_leaf context.old.target hasher left)) }
     ensures stands { (bytes : List ℕ) → IsInLeaf context.old.ancestors.items left bytes
         → StandsAt context.new result bytes }
+    ensures keeps { (bytes : List ℕ) → KeepsRows context.old bytes
+        → KeepsAt context.new result bytes }
     ensures target { context.new.target ≡ context.old.target }
 {
     if left == 0 {
@@ -54,6 +57,8 @@ pub(crate) fn take_key(context: &mut Context, leaf: OpenLeaf, token: &[u8]) -> S
         (rest_of_leaf context.old.target leaf.hasher (suc leaf.left)) (token.now ++ rest)) }
     ensures stands { (bytes : List ℕ) → IsInLeaf context.old.ancestors.items (suc leaf.left) bytes
         → StandsAt context.new result (bytes ++ token.now) }
+    ensures keeps { (bytes : List ℕ) → IsInLeaf context.old.ancestors.items (suc leaf.left) bytes
+        → KeepsRows context.old bytes → KeepsAt context.new result (bytes ++ token.now) }
     ensures target { context.new.target ≡ context.old.target }
 {
     match parse_key(token) {
@@ -81,6 +86,10 @@ pub(crate) fn end_row(
     ensures stands { IfOk result (λ state. (bytes : List ℕ) (row : RowPart)
         → IsBehindKey context.old.ancestors.items leaf.left context.old.last_key.items bytes
         → FitsRowPart row → StandsAt context.new state (bytes ++ row_form row)) }
+    ensures keeps { IfOk result (λ state. (bytes : List ℕ) (row : RowPart)
+        → KeepsBehindKey context.old bytes → FitsRowPart row
+        → length (values_bytes found.values) ≤ length (row_form row)
+        → KeepsAt context.new state (bytes ++ row_form row)) }
     ensures memory { IsErr result → IsTrue (is_needed_row context.old) }
     ensures target { context.new.target ≡ context.old.target }
 {
@@ -113,6 +122,9 @@ pub(crate) fn next_cell(
     ensures stands { IfOk result (λ state. (bytes : List ℕ)
         → IsInCells context.old.ancestors.items leaf.left context.old.last_key.items column left
         bytes → StandsAt context.new state bytes) }
+    ensures keeps { IfOk result (λ state. (bytes : List ℕ)
+        → KeepsInCells context.old column left found.values bytes
+        → KeepsAt context.new state bytes) }
     ensures memory { IsErr result → IsTrue (is_needed_row context.old) }
     ensures target { context.new.target ≡ context.old.target }
 {
@@ -141,6 +153,8 @@ pub(crate) fn take_row(
     ensures stands { IfOk result (λ state. (bytes : List ℕ)
         → IsBehindKey context.old.ancestors.items leaf.left context.old.last_key.items bytes
         → StandsAt context.new state (bytes ++ token.now)) }
+    ensures keeps { IfOk result (λ state. (bytes : List ℕ) → KeepsBehindKey context.old bytes
+        → KeepsAt context.new state (bytes ++ token.now)) }
     ensures good { IsErr result → BeginsRow token.now }
     ensures memory { IsErr result → IsTrue (is_needed_row context.old) }
     ensures target { context.new.target ≡ context.old.target }
@@ -165,6 +179,8 @@ fn take_closed_row(
     ensures stands { IfOk result (λ state. (bytes : List ℕ)
         → IsBehindKey context.old.ancestors.items leaf.left context.old.last_key.items bytes
         → StandsAt context.new state (bytes ++ 0 ∷ digest)) }
+    ensures keeps { IfOk result (λ state. (bytes : List ℕ) → KeepsBehindKey context.old bytes
+        → KeepsAt context.new state (bytes ++ 0 ∷ digest)) }
     ensures memory { IsErr result → IsTrue (is_needed_row context.old) }
     ensures target { context.new.target ≡ context.old.target }
 {
@@ -186,6 +202,8 @@ fn take_open_row(
     ensures stands { IfOk result (λ state. (bytes : List ℕ)
         → IsBehindKey context.old.ancestors.items leaf.left context.old.last_key.items bytes
         → StandsAt context.new state (bytes ++ 1 ∷ count ∷ [])) }
+    ensures keeps { IfOk result (λ state. (bytes : List ℕ) → KeepsBehindKey context.old bytes
+        → KeepsAt context.new state (bytes ++ 1 ∷ count ∷ [])) }
     ensures memory { IsErr result → IsTrue (is_needed_row context.old) }
     ensures target { context.new.target ≡ context.old.target }
 {

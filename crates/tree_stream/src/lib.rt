@@ -7,6 +7,7 @@ mod ancestors;
 mod cells;
 mod context;
 mod findings;
+mod held;
 mod inner;
 mod kinds;
 mod laws;

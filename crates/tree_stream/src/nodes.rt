@@ -1,6 +1,7 @@
 //! How a node begins.
 ghost use Rattle.std.specs.Prelude.{◌≡◌, [], ◌∷◌, ◌++◌, ◌≤◌, ℕ, List, length, reverse};
 ghost use Rattle.vo_spec.specs.Fits.{max_fill};
+ghost use Rattle.tree_stream.specs.Keeping.{KeepsAt, KeepsRows};
 ghost use Rattle.tree_stream.specs.Positions.{IsBelow, StandsAt};
 ghost use Rattle.tree_stream.specs.Remaining.{summary_at};
 ghost use Rattle.tree_stream.specs.Summaries.{Yields, levels_below, summary_by};
@@ -24,6 +25,8 @@ pub(crate) fn take_node(context: &mut Context, visited: bool, token: &[u8]) -> S
         (token.now ++ rest)) }
     ensures stands { (bytes : List ℕ) → IsBelow (reverse context.old.ancestors.items) bytes
         → StandsAt context.new result (bytes ++ token.now) }
+    ensures keeps { (bytes : List ℕ) → KeepsRows context.old bytes
+        → KeepsAt context.new result (bytes ++ token.now) }
     ensures target { context.new.target ≡ context.old.target }
 {
     match parse_node(token) {
@@ -41,6 +44,8 @@ fn take_stub(context: &mut Context, visited: bool, digest: Digest) -> State
         (0 ∷ digest ++ rest)) }
     ensures stands { (bytes : List ℕ) → IsBelow (reverse context.old.ancestors.items) bytes
         → StandsAt context.new result (bytes ++ 0 ∷ digest) }
+    ensures keeps { (bytes : List ℕ) → KeepsRows context.old bytes
+        → KeepsAt context.new result (bytes ++ 0 ∷ digest) }
     ensures target { context.new.target ≡ context.old.target }
 {
     add_stub(&mut context.findings, visited);
@@ -54,6 +59,8 @@ fn take_leaf(context: &mut Context, visited: bool, count: u8) -> State
         (1 ∷ count ∷ rest)) }
     ensures stands { (bytes : List ℕ) → IsBelow (reverse context.old.ancestors.items) bytes
         → StandsAt context.new result (bytes ++ 1 ∷ count ∷ []) }
+    ensures keeps { (bytes : List ℕ) → KeepsRows context.old bytes
+        → KeepsAt context.new result (bytes ++ 1 ∷ count ∷ []) }
     ensures target { context.new.target ≡ context.old.target }
 {
     add_open_node(&mut context.findings, visited);
@@ -70,6 +77,8 @@ fn take_inner(context: &mut Context, visited: bool, count: u8) -> State
         (2 ∷ count ∷ rest)) }
     ensures stands { (bytes : List ℕ) → IsBelow (reverse context.old.ancestors.items) bytes
         → StandsAt context.new result (bytes ++ 2 ∷ count ∷ []) }
+    ensures keeps { (bytes : List ℕ) → KeepsRows context.old bytes
+        → KeepsAt context.new result (bytes ++ 2 ∷ count ∷ []) }
     ensures target { context.new.target ≡ context.old.target }
 {
     add_open_node(&mut context.findings, visited);

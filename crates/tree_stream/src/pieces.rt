@@ -158,6 +158,7 @@ pub(crate) fn feed_piece<'b>(
     ensures ok { IfOk result (λ left. Advances machine.old machine.new
         (partial.old.items ++ piece.now) (partial.new.items ++ left.now)) }
     ensures all { IfOk result (λ left. (left.now ≡ []) ⊎ IsTrue (has_settled machine.new.state)) }
+    ensures behind { IfOk result (λ left. EndsWith piece.now left.now) }
     ensures kept_new { IsTrue (has_settled machine.new.state) → partial.new.items ≡ [] }
     ensures short_new { length partial.new.items
         < size_of_token machine.new.state partial.new.items }

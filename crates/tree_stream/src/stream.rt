@@ -1,14 +1,16 @@
 //! A tree whose bytes come in pieces.
-ghost use Rattle.std.specs.Prelude.{◌≡◌, ◌⊎◌, ◌<◌, ◌++◌, ℕ, List, [], None, length, option_map, IsTrue, IsErr, IsOk, IfOk, OnErr};
+ghost use Rattle.std.specs.Prelude.{◌≡◌, ◌⊎◌, ◌<◌, ◌-◌, ◌^◌, ◌++◌, ℕ, List, [], None, length, min, option_map, IsTrue, IsErr, IsOk, IfOk, IfSome, OnErr};
 ghost use Rattle.vo_spec.specs.Bytes.{IsBytes};
 ghost use Rattle.tree_stream.specs.Findings.{no_target};
-ghost use Rattle.tree_stream.specs.Places.{HasNeededByte};
+ghost use Rattle.tree_stream.specs.Keeping.{rows_bytes};
+ghost use Rattle.tree_stream.specs.Places.{HasNeededAndToken, HasNeededByte};
 ghost use Rattle.tree_stream.specs.Summaries.{CanEnd, complete_digest as digest_where_complete, is_settled, summary_of_tree};
 ghost use Rattle.tree_stream.specs.Tokens.{token_size};
 
 use crate::accumulate::empty_findings;
 use crate::context::Context;
 use crate::findings::{Findings, Summary};
+use crate::held::kept_count;
 use crate::machine::Machine;
 use crate::pieces::feed_piece;
 use crate::state::State;
@@ -28,7 +30,7 @@ pub struct TreeStream {
 }
 
 impl TreeStream {
-    ghost use Rattle.tree_stream.specs.Streams.{IsBehind, IsSettled, summary_of, target_in};
+    ghost use Rattle.tree_stream.specs.Streams.{IsBehind, IsSettled, held_in, summary_of, target_in};
 
     /// A reader that was given no bytes, of a tree that is read for a target.
     pub fn new(alloc: Global, target: Target) -> TreeStream
@@ -63,8 +65,9 @@ impl TreeStream {
         // All of it is taken until the tree ends.
         ensures all { IfOk result (λ left. (left.now ≡ []) ⊎ IsSettled self.new) }
 
-        ensures behind { IfOk result (λ left. left.now ≡ [] → (bytes : List ℕ)
-            → IsBehind self.old bytes → IsBehind self.new (bytes ++ piece.now)) }
+        ensures behind { IfOk result (λ left. (bytes : List ℕ) → IsBehind self.old bytes
+            → (front : List ℕ) × (piece.now ≡ front ++ left.now)
+            × IsBehind self.new (bytes ++ front)) }
 
         // Where memory ran out, no tree comes of it any more.
         ensures err { OnErr result ((more : List ℕ) → summary_of self.new more ≡ None) }
@@ -86,9 +89,23 @@ impl TreeStream {
         feed_piece(&mut self.machine, &mut self.partial, alloc, piece)
     }
 
+    /// How many bytes are held: the keys of the rows that were found, their values as they are
+    /// encoded, and a token that isn't whole. Rows are counted one by one.
+    pub fn held(&self) -> usize
+        ensures count { result ≡ min (held_in self.now) (2 ^ 64 - 1) }
+
+        // No more than was needed, and a token.
+        ensures within { (bytes : List ℕ) → IsBehind self.now bytes
+            → HasNeededAndToken (target_in self.now).interval bytes result }
+    {
+        let kept = kept_count(&self.machine.context, &self.machine.state);
+        kept.saturating_add(self.partial.len())
+    }
+
     /// The digest and what was found, where the tree has ended.
     pub fn end(self) -> Option<Summary>
-        ensures { result ≡ option_map (λ end. end.0) (summary_of self []) }
+        ensures summary { result ≡ option_map (λ end. end.0) (summary_of self []) }
+        ensures held { IfSome result (λ end. held_in self ≡ length (rows_bytes end.findings.rows)) }
     {
         let TreeStream { machine, .. } = self;
         let Machine { context, state } = machine;

@@ -1,7 +1,6 @@
 //! The machine takes one token after another.
 ghost use Rattle.std.specs.Prelude.{◌≡◌, ◌<◌, ◌++◌, ℕ, List, length, IfOk, IsErr, OnOk, OnErr};
-ghost use Rattle.tree_stream.specs.Machines.{Advances, Takes, machine_of, summary_of_machine};
-ghost use Rattle.tree_stream.specs.Positions.{StandsAt};
+ghost use Rattle.tree_stream.specs.Machines.{Advances, IsAt, Takes, machine_of, summary_of_machine};
 ghost use Rattle.tree_stream.specs.Summaries.{CanEnd, IsInNeededRow, Yields, summary_from};
 ghost use Rattle.tree_stream.specs.Tokens.{token_size};
 
@@ -24,8 +23,8 @@ fn next_state(
     requires { length token.now ≡ token_size state token.now }
     ensures ok { IfOk result (λ next. Yields context.new next
         (λ rest. summary_from context.old state (token.now ++ rest))) }
-    ensures stands { IfOk result (λ next. (bytes : List ℕ) → StandsAt context.old state bytes
-        → StandsAt context.new next (bytes ++ token.now)) }
+    ensures moves { IfOk result (λ next. (bytes : List ℕ) → IsAt (machine_of context.old state) bytes
+        → IsAt (machine_of context.new next) (bytes ++ token.now)) }
     ensures way { IsErr result → CanEnd (λ rest. summary_from context.old state
         (token.now ++ rest)) }
     ensures memory { IsErr result → IsInNeededRow context.old state }

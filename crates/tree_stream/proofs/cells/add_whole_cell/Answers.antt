@@ -1,4 +1,6 @@
+use Rattle.tree_stream.proofs.KeepingLaws.{cell_added as cell_kept}
 use Rattle.tree_stream.proofs.PlaceLaws.{cell_added}
+use Rattle.tree_stream.proofs.ValueLaws.{values_grown}
 use Rattle.std.proofs.Common.{List, ℕ, ◌++◌, ap, ◌∙◌}
 use Rattle.vo_spec.specs.Pruning.{has_column}
 use Rattle.vo_spec.specs.declared.values.Kind.{Kind}
@@ -26,3 +28,12 @@ pub returns-clause-stands : goal.returns-clause-stands
 returns-clause-stands c =
     let row = c.args.row in
     cell_added c.args.context.now.ancestors.items row.leaf.left row.column row.left c.args.context.now.last_key.items c.args.token.now (cell_of c.args.cell.now) c.next_cell.new.context c.next_cell.result c.requires.form c.requires.fits c.next_cell.ensures.stands
+
+pub returns-clause-keeps : goal.returns-clause-keeps
+returns-clause-keeps c =
+    let row = c.args.row in
+    let cell = cell_of c.args.cell.now in
+    cell_kept c.args.context.now c.next_cell.new.context row.column row.left row.findings.values c.add_cell.new.findings.values c.args.token.now cell c.next_cell.result c.requires.form c.requires.fits
+    (values_grown c.args.context.now row.column c.has_column-is_named.result c.fits_kind-fits.result cell row.findings c.add_cell.new.findings c.in_ok-add_cell.ensures.sum
+    (c.has_column-is_named.ensures ∙ ap (λ (named : List ℕ). has_column named row.column) (c.columns_at-named.ensures ∙ ap (columns_at c.args.context.now.target) c.as_slice.ensures.value)))
+    c.next_cell.ensures.keeps

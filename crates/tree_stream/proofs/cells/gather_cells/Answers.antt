@@ -2,6 +2,7 @@ use Rattle.std.proofs.Common.{◌≡◌, ℕ, List, ◌++◌, sym, ap, arith, �
 use Rattle.std.proofs.lemmas.Grind.{common_steps}
 use Rattle.tree_stream.specs.Machines.{row_summary}
 use Rattle.tree_stream.specs.Parsing.{BeginsCell, cell_of}
+use Rattle.tree_stream.specs.Summaries.{is_needed_row}
 use Rattle.tree_stream.proofs.CellLaws.{cell_whole}
 use Rattle.tree_stream.proofs.Endings.{cell_can}
 use Rattle.tree_stream.proofs.PlaceLaws.{next_cell_taken}
@@ -36,8 +37,8 @@ cells-preserved c =
     record {
       passes = passes_on _ (row_summary context row hashed) _ c.args.bytes.now left token behind c.cells.invariant.passes
           (λ rest. c.in_ok-pass_cell-in-Some.ensures.ok rest ∙ ap (λ (t : List ℕ). row_summary context row hashed (t ++ rest)) (sym c.in-Some.ensures.0)) parts;
-      cells = next_cell_taken c.args.row.now row c.pass_cell.new.row c.args.bytes.now left token behind (cell_of c.in-Some.cell) c.cells.invariant.cells parts c.in-Some.ensures.0 c.in-Some.ensures.1
-          c.in_ok-pass_cell-in-Some.ensures.count c.in_ok-pass_cell-in-Some.ensures.column c.in_ok-pass_cell-in-Some.ensures.behind;
+      cells = next_cell_taken (is_needed_row context) c.args.row.now row c.pass_cell.new.row c.args.bytes.now left token behind (cell_of c.in-Some.cell) c.cells.invariant.cells parts c.in-Some.ensures.0 c.in-Some.ensures.1
+          c.in_ok-pass_cell-in-Some.ensures.count c.in_ok-pass_cell-in-Some.ensures.column c.in_ok-pass_cell-in-Some.ensures.behind c.in_ok-pass_cell-in-Some.ensures.grown;
       room = c.in_ok-pass_cell-in-Some.ensures.room;
     }
 

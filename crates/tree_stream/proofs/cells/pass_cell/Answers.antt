@@ -10,6 +10,7 @@ use Rattle.tree_stream.specs.Remaining.{rest_of_cells}
 use Rattle.tree_stream.specs.Summaries.{summary_by}
 use Rattle.tree_stream.proofs.Remainders.{same_with}
 use Rattle.tree_stream.proofs.Steps.{cell_step}
+use Rattle.tree_stream.proofs.ValueLaws.{values_grown}
 use Rattle.tree_stream.proofs.cells.pass_cell.Goals as goal
 
 pub returns-clause-ok : goal.returns-clause-ok
@@ -33,3 +34,9 @@ returns-clause-ok c =
 
 pub returns-clause-room : goal.returns-clause-room
 returns-clause-room c = grind (arith, common_steps)
+
+pub returns-clause-grown : goal.returns-clause-grown
+returns-clause-grown c =
+    let row = c.args.row.now in
+    values_grown c.args.context.now row.column c.has_column-is_named.result c.fits_kind-fits.result (cell_of c.args.cell.now) row.findings c.add_cell.new.findings c.in_ok-add_cell.ensures.sum
+    (c.has_column-is_named.ensures ∙ ap (λ (named : List ℕ). has_column named row.column) c.requires.named)

@@ -1,5 +1,6 @@
 use Rattle.std.proofs.Common.{◌≡◌, length, arith, Bool, [], ◌∷◌}
 use Rattle.std.proofs.lemmas.List.{length-append}
+use Rattle.tree_stream.proofs.KeepingLaws.{rows_later}
 use Rattle.tree_stream.proofs.PlaceLaws.{separator_taken}
 use Rattle.std.proofs.Common.{List, ℕ, ◌-◌, ◌++◌, suc, Option, Some, ap, ◌∙◌}
 use Rattle.tree_stream.specs.Findings.{visits_child}
@@ -40,3 +41,10 @@ returns-in-Some-clause-stands c = λ bytes at.
     omega (arith, ap (λ (t : List Bool). length t) c.push.ensures.items, length-append c.args.head.child_visits.items (c.visits_child.result ∷ [])) in
     c.next_separator.ensures.stands (bytes ++ c.args.token.now)
     (separator_taken c.args.context.now.ancestors.items (length c.args.head.child_visits.items) (length c.push.new.self.items) c.args.head.left bytes c.in-Some.separator.now c.args.token.now at grown c.in-Some.ensures.0 c.in-Some.ensures.1)
+
+pub returns-in-None-clause-keeps : goal.returns-in-None-clause-keeps
+returns-in-None-clause-keeps c = λ bytes keeps. rows_later c.args.context.now bytes c.args.token.now keeps
+
+pub returns-in-Some-clause-keeps : goal.returns-in-Some-clause-keeps
+returns-in-Some-clause-keeps c = λ bytes keeps.
+    c.next_separator.ensures.keeps (bytes ++ c.args.token.now) (rows_later c.args.context.now bytes c.args.token.now keeps)

@@ -1,5 +1,7 @@
 use Rattle.std.proofs.Common.{◌≡◌, ℕ, suc, ◌-◌, subst}
+use Rattle.tree_stream.specs.Keeping.{KeepsInCells}
 use Rattle.tree_stream.specs.Positions.{IsInCells}
+use Rattle.tree_stream.proofs.KeepingLaws.{row_ended as row_kept}
 use Rattle.tree_stream.proofs.PlaceLaws.{row_ended}
 use Rattle.std.proofs.Common.{arith}
 use Rattle.tree_stream.proofs.Remainders.{same_with}
@@ -24,3 +26,12 @@ returns-clause-stands c = λ bytes at.
     let n : c.args.left ≡ suc (c.args.left - 1) = omega arith in
     let P : ℕ → Type 0 = λ left. IsInCells c.args.context.now.ancestors.items c.args.leaf.left c.args.context.now.last_key.items c.args.column left bytes in
     subst P n at
+
+pub returns-then-left-eq0-clause-keeps : goal.returns-then-left-eq0-clause-keeps
+returns-then-left-eq0-clause-keeps c = row_kept c.args.context.now c.end_row.new.context c.args.column c.args.left c.args.found.values c.end_row.result (omega arith) c.end_row.ensures.keeps
+
+pub returns-clause-keeps : goal.returns-clause-keeps
+returns-clause-keeps c = λ bytes keeps.
+    let n : c.args.left ≡ suc (c.args.left - 1) = omega arith in
+    let P : ℕ → Type 0 = λ left. KeepsInCells c.args.context.now c.args.column left c.args.found.values bytes in
+    subst P n keeps

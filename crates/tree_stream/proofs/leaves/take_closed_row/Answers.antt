@@ -1,3 +1,5 @@
+use Rattle.tree_stream.specs.declared.findings.CellFindings.{CellFindings}
+use Rattle.tree_stream.proofs.KeepingLaws.{closed_row_ended as closed_row_kept}
 use Rattle.tree_stream.proofs.PlaceLaws.{closed_row_ended}
 use Rattle.std.proofs.Common.{ap, ◌∙◌}
 use Rattle.tree_stream.specs.Findings.{closed_row_findings, columns_at}
@@ -16,3 +18,8 @@ returns-clause-ok c =
 pub returns-clause-stands : goal.returns-clause-stands
 returns-clause-stands c =
     closed_row_ended c.args.context.now.ancestors.items c.args.leaf.left c.args.context.now.last_key.items c.args.digest c.end_row.new.context c.end_row.result c.requires c.end_row.ensures.stands
+
+pub returns-clause-keeps : goal.returns-clause-keeps
+returns-clause-keeps c =
+    closed_row_kept c.args.context.now c.end_row.new.context c.args.digest c.closed_row-found.result.values c.end_row.result c.requires
+    (ap (λ (f : CellFindings). f.values) c.closed_row-found.ensures) c.end_row.ensures.keeps

@@ -1,5 +1,6 @@
 use Rattle.std.proofs.Common.{ℕ, List, subst, sym}
 use Rattle.tree_stream.specs.Positions.{IsBehindKey}
+use Rattle.tree_stream.proofs.KeepingLaws.{key_kept, rows_later}
 use Rattle.tree_stream.proofs.PlaceLaws.{key_taken}
 use Rattle.std.proofs.Common.{◌++◌, suc}
 use Rattle.tree_stream.specs.Remaining.{rest_of_leaf, rest_of_row}
@@ -27,3 +28,11 @@ pub returns-in-Some-clause-stands : goal.returns-in-Some-clause-stands
 returns-in-Some-clause-stands c = λ bytes at.
     let P : List ℕ → Type 0 = λ key. IsBehindKey c.args.context.now.ancestors.items c.args.leaf.left key (bytes ++ c.args.token.now) in
     subst P (sym c.replace_key.ensures) (key_taken c.args.context.now.ancestors.items c.args.leaf.left bytes c.in-Some.key.now c.args.token.now at c.in-Some.ensures.0 c.in-Some.ensures.1)
+
+pub returns-in-None-clause-keeps : goal.returns-in-None-clause-keeps
+returns-in-None-clause-keeps c = λ bytes at keeps. rows_later c.args.context.now bytes c.args.token.now keeps
+
+pub returns-in-Some-clause-keeps : goal.returns-in-Some-clause-keeps
+returns-in-Some-clause-keeps c = λ bytes at keeps.
+    key_kept c.args.context.now.ancestors.items c.args.leaf.left bytes c.in-Some.key.now c.args.token.now c.replace_key.new.last_key.items c.args.context.now.target.interval c.args.context.now.findings.rows at keeps
+    c.in-Some.ensures.0 c.in-Some.ensures.1 c.replace_key.ensures

@@ -1,3 +1,5 @@
+use Rattle.tree_stream.specs.declared.findings.CellFindings.{CellFindings}
+use Rattle.tree_stream.proofs.KeepingLaws.{open_row_begun as open_row_kept}
 use Rattle.tree_stream.proofs.PlaceLaws.{open_row_begun}
 use Rattle.std.proofs.Common.{List, ℕ, ◌∷◌, [], ◌++◌, ap, ◌∙◌}
 use Rattle.vo_spec.specs.declared.values.Kind.{Kind}
@@ -20,3 +22,8 @@ returns-clause-ok c =
 pub returns-clause-stands : goal.returns-clause-stands
 returns-clause-stands c =
     open_row_begun c.args.context.now.ancestors.items c.args.leaf.left c.args.context.now.last_key.items c.args.count c.next_cell.new.context c.next_cell.result c.requires c.next_cell.ensures.stands
+
+pub returns-clause-keeps : goal.returns-clause-keeps
+returns-clause-keeps c =
+    open_row_kept c.args.context.now c.next_cell.new.context c.args.count c.begin_cells-found.result.values c.next_cell.result c.requires
+    (ap (λ (f : CellFindings). f.values) c.begin_cells-found.ensures) c.next_cell.ensures.keeps

@@ -1,3 +1,6 @@
+use Rattle.std.proofs.Common.{refl, ◌++◌, ◌∷◌, []}
+use Rattle.tree_stream.specs.Findings.{open_node_findings}
+use Rattle.tree_stream.proofs.KeepingLaws.{rows_later, same_rows}
 use Rattle.std.proofs.Common.{◌≡◌, ℕ, ◌-◌, List, Bool, length, subst, sym, arith}
 use Rattle.tree_stream.specs.Positions.{IsInSeparators}
 use Rattle.tree_stream.proofs.PlaceLaws.{no_separators}
@@ -18,3 +21,10 @@ returns-clause-stands c = λ bytes below.
     let none : length c.new.result.items ≡ 0 = ap (λ (t : List Bool). length t) c.new.ensures in
     let P : ℕ → Type 0 = λ n. IsInSeparators c.args.context.now.ancestors.items n (c.args.count - 1) all in
     c.next_separator.ensures.stands all (subst P (sym none) (no_separators c.args.context.now.ancestors.items c.args.count (c.args.count - 1) bytes below c.requires.least c.requires.few (omega (arith, c.requires.least))))
+
+pub returns-clause-keeps : goal.returns-clause-keeps
+returns-clause-keeps c = λ bytes keeps.
+    let context = c.args.context.now in
+    c.next_separator.ensures.keeps (bytes ++ 2 ∷ c.args.count ∷ [])
+    (same_rows context.target.interval (bytes ++ 2 ∷ c.args.count ∷ []) context.findings c.add_open_node.new.findings (open_node_findings c.args.visited) c.add_open_node.ensures refl
+    (rows_later context bytes (2 ∷ c.args.count ∷ []) keeps))

@@ -1,3 +1,6 @@
+use Rattle.std.proofs.Common.{refl, ◌++◌, ◌∷◌, []}
+use Rattle.tree_stream.specs.Findings.{open_node_findings}
+use Rattle.tree_stream.proofs.KeepingLaws.{rows_later, same_rows}
 use Rattle.tree_stream.proofs.PlaceLaws.{leaf_begun}
 use Rattle.std.proofs.Common.{◌++◌}
 use Rattle.std.proofs.Common.{List, ℕ, ◌∷◌, [], ◌++◌, ap, ◌∙◌}
@@ -14,3 +17,10 @@ returns-clause-yields c =
 pub returns-clause-stands : goal.returns-clause-stands
 returns-clause-stands c = λ bytes below.
     c.next_entry.ensures.stands (bytes ++ 1 ∷ c.args.count ∷ []) (leaf_begun c.args.context.now.ancestors.items c.args.count bytes below c.requires)
+
+pub returns-clause-keeps : goal.returns-clause-keeps
+returns-clause-keeps c = λ bytes keeps.
+    let context = c.args.context.now in
+    c.next_entry.ensures.keeps (bytes ++ 1 ∷ c.args.count ∷ [])
+    (same_rows context.target.interval (bytes ++ 1 ∷ c.args.count ∷ []) context.findings c.add_open_node.new.findings (open_node_findings c.args.visited) c.add_open_node.ensures refl
+    (rows_later context bytes (1 ∷ c.args.count ∷ []) keeps))

@@ -1,3 +1,6 @@
+use Rattle.std.proofs.Common.{refl, ◌++◌, ◌∷◌}
+use Rattle.tree_stream.specs.Findings.{stub_findings}
+use Rattle.tree_stream.proofs.KeepingLaws.{rows_later, same_rows}
 use Rattle.vo_spec.specs.Parts.{stub}
 use Rattle.tree_stream.proofs.Steps.{yields_then, stub_step}
 use Rattle.tree_stream.proofs.nodes.take_stub.Goals as goal
@@ -10,3 +13,10 @@ returns-clause-yields c =
 
 pub returns-clause-stands : goal.returns-clause-stands
 returns-clause-stands c = λ bytes below. c.end_node.ensures.stands bytes (stub c.args.digest) below c.requires
+
+pub returns-clause-keeps : goal.returns-clause-keeps
+returns-clause-keeps c = λ bytes keeps.
+    let context = c.args.context.now in
+    c.end_node.ensures.keeps (bytes ++ 0 ∷ c.args.digest)
+    (same_rows context.target.interval (bytes ++ 0 ∷ c.args.digest) context.findings c.add_stub.new.findings (stub_findings c.args.visited) c.add_stub.ensures refl
+    (rows_later context bytes (0 ∷ c.args.digest) keeps))

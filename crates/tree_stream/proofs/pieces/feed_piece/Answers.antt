@@ -2,7 +2,7 @@ use Rattle.std.proofs.Common.{List, ℕ, ◌++◌, subst, sym, ◌∙◌, arith}
 use Rattle.std.specs.Prelude.{IfOk}
 use Rattle.tree_stream.specs.Machines.{Advances, StopsInRow, summary_of_machine}
 use Rattle.tree_stream.specs.Summaries.{CanEnd}
-use Rattle.tree_stream.proofs.PieceLaws.{ok_advances, left_is_taken, way_behind, stops_later, no_length}
+use Rattle.tree_stream.proofs.PieceLaws.{ends_later, ok_advances, ok_ends, left_is_taken, way_behind, stops_later, no_length}
 use Rattle.tree_stream.proofs.pieces.feed_piece.Goals as goal
 
 pub returns-clause-all : goal.returns-clause-all
@@ -43,3 +43,11 @@ returns-then-is_empty-clause-memory c = λ err.
 
 pub feed_whole-requires-then-is_empty-2 : goal.feed_whole-requires-then-is_empty-2
 feed_whole-requires-then-is_empty-2 c = no_length c.fill.new.partial.items (sym c.is_empty-2.ensures ∙ c.if-is_empty-2.true)
+
+pub returns-then-is_empty-clause-behind : goal.returns-then-is_empty-clause-behind
+returns-then-is_empty-clause-behind c = ok_ends c.feed_whole.result c.args.machine.now c.feed_whole.new.machine c.args.piece.now c.feed_whole.new.partial.items c.feed_whole.ensures.ok
+
+pub returns-then-is_empty-2-clause-behind : goal.returns-then-is_empty-2-clause-behind
+returns-then-is_empty-2-clause-behind c =
+    ends_later c.feed_whole-then-is_empty-2.result c.args.piece.now c.in_ok-left.left.now c.in_ok-left.ensures.behind
+    (ok_ends c.feed_whole-then-is_empty-2.result c.fill.new.machine c.feed_whole-then-is_empty-2.new.machine c.in_ok-left.left.now c.feed_whole-then-is_empty-2.new.partial.items c.feed_whole-then-is_empty-2.ensures.ok)

@@ -1,5 +1,5 @@
 use Rattle.tree_stream.specs.declared.state.State.TheVariants.{Node, Separator, Key, Row, Cell}
-use Rattle.tree_stream.proofs.PlaceLaws.{stands_from, ok_stands_from}
+use Rattle.tree_stream.proofs.KeepingLaws.{moves_from, ok_moves_from, lost_from}
 use Rattle.std.proofs.Common.{suc, refl, ◌∙◌}
 use Rattle.tree_stream.proofs.Steps.{yields_node, yields_separator, yields_key, yields_row, yields_cell}
 use Rattle.tree_stream.proofs.StateLaws.{node_token, separator_token, key_state_token, row_token, cell_token, step_from, ok_step_from, complete_step, invalid_step, row_way, cell_way}
@@ -51,17 +51,28 @@ returns-in-Complete-clause-ok c = complete_step c.args.context.now _ c.args.stat
 pub returns-in-Invalid-clause-ok : goal.returns-in-Invalid-clause-ok
 returns-in-Invalid-clause-ok c = invalid_step c.args.context.now _ c.args.state c.args.token.now c.in-Invalid.is
 
-pub returns-in-Node-clause-stands : goal.returns-in-Node-clause-stands
-returns-in-Node-clause-stands c = stands_from c.args.context.now c.take_node.new.context c.take_node.result c.args.state (Node c.in-Node.visited) c.args.token.now c.in-Node.is c.take_node.ensures.stands
+pub returns-in-Node-clause-moves : goal.returns-in-Node-clause-moves
+returns-in-Node-clause-moves c =
+    moves_from c.args.context.now c.take_node.new.context c.take_node.result c.args.state (Node c.in-Node.visited) c.args.token.now c.in-Node.is c.take_node.ensures.stands (λ bytes at keeps. c.take_node.ensures.keeps bytes keeps)
 
-pub returns-in-Separator-clause-stands : goal.returns-in-Separator-clause-stands
-returns-in-Separator-clause-stands c = stands_from c.args.context.now c.take_separator.new.context c.take_separator.result c.args.state (Separator c.in-Separator.head) c.args.token.now c.in-Separator.is c.take_separator.ensures.stands
+pub returns-in-Separator-clause-moves : goal.returns-in-Separator-clause-moves
+returns-in-Separator-clause-moves c =
+    moves_from c.args.context.now c.take_separator.new.context c.take_separator.result c.args.state (Separator c.in-Separator.head) c.args.token.now c.in-Separator.is c.take_separator.ensures.stands (λ bytes at keeps. c.take_separator.ensures.keeps bytes keeps)
 
-pub returns-in-Key-clause-stands : goal.returns-in-Key-clause-stands
-returns-in-Key-clause-stands c = stands_from c.args.context.now c.take_key.new.context c.take_key.result c.args.state (Key c.in-Key.leaf) c.args.token.now c.in-Key.is c.take_key.ensures.stands
+pub returns-in-Key-clause-moves : goal.returns-in-Key-clause-moves
+returns-in-Key-clause-moves c =
+    moves_from c.args.context.now c.take_key.new.context c.take_key.result c.args.state (Key c.in-Key.leaf) c.args.token.now c.in-Key.is c.take_key.ensures.stands c.take_key.ensures.keeps
 
-pub returns-in-Row-clause-stands : goal.returns-in-Row-clause-stands
-returns-in-Row-clause-stands c = ok_stands_from c.args.context.now c.take_row.new.context c.take_row.result c.args.state (Row c.in-Row.leaf) c.args.token.now c.in-Row.is c.take_row.ensures.stands
+pub returns-in-Row-clause-moves : goal.returns-in-Row-clause-moves
+returns-in-Row-clause-moves c =
+    ok_moves_from c.args.context.now c.take_row.new.context c.take_row.result c.args.state (Row c.in-Row.leaf) c.args.token.now c.in-Row.is c.take_row.ensures.stands c.take_row.ensures.keeps
 
-pub returns-in-Cell-clause-stands : goal.returns-in-Cell-clause-stands
-returns-in-Cell-clause-stands c = ok_stands_from c.args.context.now c.take_cell.new.context c.take_cell.result c.args.state (Cell c.in-Cell.row) c.args.token.now c.in-Cell.is c.take_cell.ensures.stands
+pub returns-in-Cell-clause-moves : goal.returns-in-Cell-clause-moves
+returns-in-Cell-clause-moves c =
+    ok_moves_from c.args.context.now c.take_cell.new.context c.take_cell.result c.args.state (Cell c.in-Cell.row) c.args.token.now c.in-Cell.is c.take_cell.ensures.stands c.take_cell.ensures.keeps
+
+pub returns-in-Complete-clause-moves : goal.returns-in-Complete-clause-moves
+returns-in-Complete-clause-moves c = λ bytes at. lost_from c.args.context.now c.args.state c.args.token.now bytes at
+
+pub returns-in-Invalid-clause-moves : goal.returns-in-Invalid-clause-moves
+returns-in-Invalid-clause-moves c = λ bytes at. lost_from c.args.context.now c.args.state c.args.token.now bytes at

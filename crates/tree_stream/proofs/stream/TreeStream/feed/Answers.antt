@@ -29,7 +29,7 @@ unfolding summary_of
 returns-clause-way c = c.feed_piece.ensures.way
 
 pub returns-clause-behind : goal.returns-clause-behind
-returns-clause-behind c = behind_piece c.feed_piece.result c.args.self.now _ c.args.piece.now c.feed_piece.ensures.ok
+returns-clause-behind c = behind_piece c.feed_piece.result c.args.self.now _ c.args.piece.now c.feed_piece.ensures.ok c.feed_piece.ensures.behind
 
 pub returns-clause-memory : goal.returns-clause-memory
 returns-clause-memory c = λ err bytes behind. has_needed_byte c.args.self.now c.args.piece.now bytes (c.feed_piece.ensures.memory err) behind

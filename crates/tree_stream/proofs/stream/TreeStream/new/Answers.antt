@@ -5,6 +5,7 @@ use Rattle.tree_stream.specs.declared.state.InnerNode.{InnerNode}
 use Rattle.tree_stream.specs.declared.state.State.TheVariants.{Node}
 use Rattle.tree_stream.specs.Streams.{summary_of}
 use Rattle.tree_stream.specs.Summaries.{summary_from}
+use Rattle.tree_stream.proofs.KeepingLaws.{nothing_kept}
 use Rattle.tree_stream.proofs.PlaceLaws.{below_none}
 use Rattle.tree_stream.proofs.PieceLaws.{empty_short}
 use Rattle.tree_stream.proofs.ShortLaws.{start_is}
@@ -25,4 +26,4 @@ returns-clause-summary c = λ bytes.
     ∙ start_is context bytes c.new.ensures c.empty_findings.ensures
 
 pub returns-clause-behind : goal.returns-clause-behind
-returns-clause-behind c = record { taken = []; at = below_none c.new.result.items c.new.ensures; parts = sym c.new-3.ensures }
+returns-clause-behind c = record { taken = []; at = (below_none c.new.result.items c.new.ensures, nothing_kept c.args.target.interval [] c.empty_findings.result c.empty_findings.ensures); parts = sym c.new-3.ensures }
