@@ -28,7 +28,7 @@ u32_same : (bytes : List ℕ) → length bytes ≡ 4 → IsBytes bytes → u32_b
 unfolding u32_bytes u32_of
 u32_same bytes len fits = be_bytes_4 bytes _ len fits refl
 
-u32_size : (n : ℕ) → length (u32_bytes n) ≡ 4
+pub u32_size : (n : ℕ) → length (u32_bytes n) ≡ 4
 unfolding u32_bytes
 u32_size n = refl
 

@@ -8,3 +8,5 @@ pub mod TreesLaws
 pub mod TreesPieces
 pub mod PartLaws
 pub mod NeededBytes
+pub mod KeptRows
+pub mod HeldHeads

@@ -34,16 +34,6 @@ needed_in_first target stream bytes piece first memory =
       needed = needed.needed;
     }
 
-pub first_fed : (target : Target) (old new : TreeStream) (bytes piece : List ℕ) → IsInFirstTree target old bytes → target_in new ≡ target_in old
-    → ((tree : List ℕ) → IsBehindTree old tree → IsBehindTree new (tree ++ piece)) → IsInFirstTree target new (bytes ++ piece)
-first_fed target old new bytes piece first same fed = record {
-  count = first.count;
-  tree = first.tree ++ piece;
-  bytes_are = ap (λ (t : List ℕ). t ++ piece) first.bytes_are;
-  is_target = same ∙ first.is_target;
-  behind = fed first.tree first.behind;
-}
-
 -- A tree that is read for no rows wants no memory, and so none behind the first does.
 
 pub first_alone : (tree : OpenTree) → (target_in tree.stream ≡ no_target → false ≡ true) → tree.first ≡ None
@@ -59,11 +49,11 @@ pub first_begun : (target : Target) (count : ℕ) (stream : TreeStream) → targ
 first_begun target count stream same behind =
     record { count = count; tree = []; bytes_are = refl; is_target = same; behind = behind }
 
-pub begun_behind : (r : Result TreesState AllocError) (target : Target) (count : ℕ) (stream : TreeStream) (piece : List ℕ) (first : Option Summary) → first ≡ None → target_in stream ≡ target → IsBehindTree stream []
-    → IfOk r (λ new. (target : Target) (bytes : List ℕ) → (first ≡ None → IsInFirstTree target stream bytes) → IsStateBehind target new (bytes ++ piece))
+pub begun_behind : (r : Result TreesState AllocError) (target : Target) (count : ℕ) (stream : TreeStream) (piece : List ℕ) → target_in stream ≡ target → IsBehindTree stream []
+    → IfOk r (λ new. (target : Target) (bytes : List ℕ) → IsInFirstTree target stream bytes → IsStateBehind target new (bytes ++ piece))
     → IfOk r (λ new. IsStateBehind target new (count ∷ piece))
-begun_behind (Ok new) target count stream piece first none same behind fed = fed target (count ∷ []) (λ none. first_begun target count stream same behind)
-begun_behind (Err e) target count stream piece first none same behind fed = tt
+begun_behind (Ok new) target count stream piece same behind fed = fed target (count ∷ []) (first_begun target count stream same behind)
+begun_behind (Err e) target count stream piece same behind fed = tt
 
 pub needed_behind_count : (interval : Interval) (count : ℕ) (piece : List ℕ) → HasNeededByte interval (count ∷ []) piece → HasNeededByte interval [] (count ∷ piece)
 needed_behind_count interval count piece needed = record {

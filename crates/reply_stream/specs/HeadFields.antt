@@ -1,5 +1,6 @@
 -- The fields of a head, one of which is taken at a time.
-use Rattle.std.specs.Prelude.{◌≡◌, ℕ, ◌≤◌, List, [], length, Option, Some, None}
+use Rattle.std.specs.Prelude.{◌≡◌, ℕ, ◌+◌, ◌≤◌, List, [], length, Option, Some, None}
+use Rattle.reply_stream.specs.ReplyHeads.{head_size}
 use Rattle.reply_stream.specs.declared.head_state.HeadState.{HeadState}
 use Rattle.reply_stream.specs.declared.head_state.HeadState.TheVariants.{Front, SignatureLength, Signature, CatalogLength, Catalog, Complete, Invalid}
 
@@ -22,6 +23,16 @@ fields_left (CatalogLength signed) = 2
 fields_left (Catalog field) = 1
 fields_left (Complete found) = 0
 fields_left Invalid = 0
+
+-- how many bytes the fields have that were taken
+abbrev pub taken_count : HeadState → ℕ
+taken_count Front = 0
+taken_count (SignatureLength rec) = 64
+taken_count (Signature field) = 68
+taken_count (CatalogLength signed) = 68 + length signed.signature
+taken_count (Catalog field) = 72 + length field.signed.signature
+taken_count (Complete found) = head_size found
+taken_count Invalid = 0
 
 -- bytes of the next field are no more than it has, and there are none where no field comes
 abbrev pub FitField : Option ℕ → List ℕ → Type 0

@@ -1,5 +1,5 @@
 -- What reading gives of the trees of a reply: how many there are, and what is found in the first.
-use Rattle.std.specs.Prelude.{◌≡◌, ℕ, ◌<◌, Bool, true, false, IsTrue, List, [], ◌∷◌, ◌++◌, length, Option, Some, None, Result, Ok, Err}
+use Rattle.std.specs.Prelude.{◌≡◌, ℕ, ◌+◌, ◌≤◌, ◌<◌, Bool, true, false, IsTrue, List, [], ◌∷◌, ◌++◌, length, Option, Some, None, Result, Ok, Err}
 use Rattle.std.specs.declared.alloc.AllocError.{AllocError}
 use Rattle.vo_spec.specs.declared.keys.Interval.{Interval}
 use Rattle.vo_spec.specs.Bytes.{IsBytes}
@@ -15,8 +15,10 @@ use Rattle.tree_stream.specs.declared.findings.Summary.{Summary}
 use Rattle.tree_stream.specs.declared.stream.TreeStream.{TreeStream}
 use Rattle.tree_stream.specs.Findings.{findings_in}
 use Rattle.tree_stream.specs.Remaining.{summary}
-use Rattle.tree_stream.specs.Streams.{summary_of, target_in, IsBehind as IsBehindTree}
-use Rattle.tree_stream.specs.Places.{EndsInRow}
+use Rattle.tree_stream.specs.Keeping.{rows_bytes}
+use Rattle.tree_stream.specs.Streams.{held_in as held_in_tree, summary_of, target_in, IsBehind as IsBehindTree}
+use Rattle.tree_stream.specs.Places.{EndsInRow, HasNeededEntries as TreeHasNeededEntries}
+use Rattle.tree_stream.specs.Tokens.{max_token}
 use Rattle.reply_stream.specs.declared.trees_summary.TreesSummary.{TreesSummary}
 use Rattle.reply_stream.specs.declared.trees_state.OpenTree.{OpenTree}
 use Rattle.reply_stream.specs.declared.trees_state.TreesState.{TreesState}
@@ -88,13 +90,43 @@ pub record IsInFirstTree (target : Target) (stream : TreeStream) (bytes : List �
   pub is_target : target_in stream ≡ target
   pub behind : IsBehindTree stream tree
 
+-- so many of them, or more, are of entries of the first tree whose keys are in the interval
+abbrev pub HasNeededEntries : Interval → List ℕ → ℕ → Type 0
+HasNeededEntries interval [] needed = needed ≡ 0
+HasNeededEntries interval (count ∷ tree) needed = TreeHasNeededEntries interval tree needed
+
+-- so many are, and those of a token, or more
+pub record HasNeededAndToken (interval : Interval) (bytes : List ℕ) (count : ℕ) : Type 0 where
+  pub needed : ℕ
+  pub has_needed : HasNeededEntries interval bytes needed
+  pub within : count ≤ needed + max_token
+
+-- A tree is read behind them, and what was found in the first one is kept, where that ended: its
+-- rows are of needed entries.
+abbrev pub IsTreeBehind : Target → Option Summary → TreeStream → List ℕ → Type 0
+IsTreeBehind target None stream bytes = IsInFirstTree target stream bytes
+IsTreeBehind target (Some first) stream bytes =
+    HasNeededEntries target.interval bytes (length (rows_bytes first.findings.rows))
+    × ((tree : List ℕ) × IsBehindTree stream tree)
+
 -- the state took them, and reads the first tree for the target
 abbrev pub IsStateBehind : Target → TreesState → List ℕ → Type 0
 IsStateBehind target (Count own) bytes = (own ≡ target) × (bytes ≡ [])
 IsStateBehind target Empty bytes = Unit {0}
-IsStateBehind target (Tree tree) bytes =
-    tree.first ≡ None → IsInFirstTree target tree.stream bytes
+IsStateBehind target (Tree tree) bytes = IsTreeBehind target tree.first tree.stream bytes
 IsStateBehind target Invalid bytes = Unit {0}
+
+-- Counts.
+
+-- how many bytes the rows have that are kept of the first tree
+abbrev pub first_count : Option Summary → ℕ
+first_count None = 0
+first_count (Some first) = length (rows_bytes first.findings.rows)
+
+-- how many bytes a state holds: of these, and of the tree that is read
+abbrev pub held_at : TreesState → ℕ
+held_at (Tree tree) = first_count tree.first + held_in_tree tree.stream
+held_at _ = 0
 
 -- some byte of the piece, which comes behind these bytes, is of a row of the first tree whose key
 -- is in the interval

@@ -1,6 +1,7 @@
 //! What comes before the trees of a reply.
 ghost use Rattle.std.specs.Prelude.{◌≡◌};
 ghost use Rattle.vo_spec.specs.Records.{FitsCatalog};
+ghost use Rattle.reply_stream.specs.ReplyHeads.{head_size};
 
 use std::marker::Model;
 use vo_spec::{Catalog, List, Record};
@@ -11,10 +12,13 @@ pub struct Head {
     pub(crate) rec: Record,
     pub(crate) signature: List<u8>,
     pub(crate) catalog: Catalog,
+    /// How many bytes the catalog has, as it is encoded.
+    pub(crate) catalog_size: u32,
 }
 
 impl Model for Head {
-    ghost use Rattle.vo_spec.specs.Records.{FitsCatalog};
+    ghost use Rattle.std.specs.Prelude.{◌≡◌, length};
+    ghost use Rattle.vo_spec.specs.Records.{FitsCatalog, catalog_bytes};
     ghost use Rattle.reply_stream.specs.ReplyHeads.{ReplyHead};
 
     ghost Value = { ReplyHead };
@@ -25,10 +29,18 @@ impl Model for Head {
       catalog = head.catalog;
     } };
 
-    ghost invariant = { λ head. FitsCatalog head.catalog };
+    ghost invariant = { λ head. FitsCatalog head.catalog
+        × (head.catalog_size ≡ length (catalog_bytes head.catalog)) };
 }
 
 impl Head {
+    /// How many bytes of the reply it is.
+    pub fn size(&self) -> usize
+        ensures { result ≡ head_size self.now }
+    {
+        72 + self.signature.as_slice().len() + self.catalog_size as usize
+    }
+
     pub fn rec(&self) -> &Record
         ensures { result.now ≡ self.now.rec }
     {

@@ -5,7 +5,7 @@ ghost use Rattle.row_bytes.specs.declared.read_fault.ReadFault.TheVariants.{BadF
 ghost use Rattle.row_bytes.specs.Fields.{whole};
 ghost use Rattle.reply_stream.specs.Heads.{Yields, front_at, rest_of_head};
 ghost use Rattle.reply_stream.specs.HeadFronts.{TookFields};
-ghost use Rattle.reply_stream.specs.HeadFields.{field_size as size_of_field, fields_left};
+ghost use Rattle.reply_stream.specs.HeadFields.{field_size as size_of_field, fields_left, taken_count as count_of_taken};
 
 use crate::head::Head;
 use crate::head_state::{CatalogField, HeadState, SignatureField, SignedRecord};
@@ -27,6 +27,21 @@ pub(crate) fn field_size(state: &HeadState) -> Option<usize>
         HeadState::Catalog(field) => Some(field.size as usize),
         HeadState::Complete(_) => None,
         HeadState::Invalid => None,
+    }
+}
+
+/// How many bytes the fields have that were taken.
+pub(crate) fn taken_count(state: &HeadState) -> usize
+    ensures { result ≡ count_of_taken state.now }
+{
+    match state {
+        HeadState::Front => 0,
+        HeadState::SignatureLength(_) => 64,
+        HeadState::Signature(_) => 68,
+        HeadState::CatalogLength(signed) => 68 + signed.signature.as_slice().len(),
+        HeadState::Catalog(field) => 72 + field.signed.signature.as_slice().len(),
+        HeadState::Complete(head) => head.size(),
+        HeadState::Invalid => 0,
     }
 }
 
@@ -120,13 +135,14 @@ fn take_catalog(alloc: Global, field: CatalogField, token: &[u8]) -> Result<Head
     ensures took { IfOk result (λ state. (taken : Bytes ℕ) → TookFields state taken) }
     ensures fewer { IfOk result (λ state. fields_left state < 1) }
 {
-    let CatalogField { signed, .. } = field;
+    let CatalogField { signed, size, .. } = field;
     let SignedRecord { rec, signature } = signed;
     match catalog_in(alloc, token) {
         Ok(catalog) => Ok(HeadState::Complete(Head {
             rec,
             signature,
             catalog,
+            catalog_size: size,
         })),
         Err(fault) => after_fault(fault),
     }

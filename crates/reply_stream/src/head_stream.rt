@@ -1,11 +1,11 @@
 //! A reply's head whose bytes come in pieces.
-ghost use Rattle.std.specs.Prelude.{◌≡◌, ◌⊎◌, ◌++◌, ◌<◌, ◌≤◌, ℕ, List, [], Some, None, length, IsNone, IsErr, IsOk, IfOk, IfSome, OnOk, OnErr};
+ghost use Rattle.std.specs.Prelude.{◌≡◌, ◌⊎◌, ◌++◌, ◌<◌, ◌≤◌, ◌-◌, ◌^◌, ℕ, min, List, [], Some, None, length, IsNone, IsErr, IsOk, IfOk, IfSome, OnOk, OnErr};
 ghost use Rattle.reply_stream.specs.Heads.{head_at, rest_of_head};
 ghost use Rattle.reply_stream.specs.HeadFronts.{IsBehindBytes, IsHeadFront, TookFields};
 ghost use Rattle.reply_stream.specs.HeadFields.{FitField, field_size as size_of_field, fields_left};
 
 use crate::head::Head;
-use crate::head_fields::{field_size, take_field};
+use crate::head_fields::{field_size, take_field, taken_count};
 use crate::head_state::HeadState;
 use std::alloc::{AllocError, Global};
 
@@ -19,7 +19,7 @@ pub struct HeadStream {
 }
 
 impl HeadStream {
-    ghost use Rattle.reply_stream.specs.HeadStreams.{IsBehind, IsSettled, head_of};
+    ghost use Rattle.reply_stream.specs.HeadStreams.{IsBehind, IsSettled, head_of, held_in};
 
     /// A reader that was given no bytes.
     pub fn new(alloc: Global) -> HeadStream
@@ -54,6 +54,18 @@ impl HeadStream {
             → IsHeadFront bytes }
     {
         feed_fields(&mut self.state, &mut self.held, alloc, piece)
+    }
+
+    /// How many bytes are held: those of the fields that were taken, and of one that isn't whole.
+    pub fn held(&self) -> usize
+        ensures count { result ≡ min (held_in self.now) (2 ^ 64 - 1) }
+
+        // Before the head ends these are all that came, or none where they can't be a head.
+        ensures front { head_of self.now [] ≡ None → (bytes : List ℕ) → IsBehind self.now bytes
+            → length bytes < 2 ^ 64 → (result ≡ length bytes)
+            ⊎ ((result ≡ 0) × ((more : List ℕ) → head_of self.now more ≡ None)) }
+    {
+        taken_count(&self.state).saturating_add(self.held.len())
     }
 
     /// The head, where it has ended.

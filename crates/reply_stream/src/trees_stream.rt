@@ -1,12 +1,12 @@
 //! The trees of a reply, whose bytes come in pieces behind the catalog's last byte.
-ghost use Rattle.std.specs.Prelude.{◌≡◌, ◌<◌, ◌++◌, ◌≢◌, ◌∷◌, ℕ, List, [], Some, None, Ok, true, false, nat_lt, if◌then◌else◌, is_some, IsTrue, IsErr, IsOk, IfOk, OnOk, OnErr};
+ghost use Rattle.std.specs.Prelude.{◌≡◌, ◌<◌, ◌-◌, ◌^◌, ◌++◌, ◌≢◌, ◌∷◌, ℕ, min, List, [], Some, None, Ok, true, false, nat_lt, if◌then◌else◌, is_some, IsTrue, IsErr, IsOk, IfOk, OnOk, OnErr};
 ghost use Rattle.vo_spec.specs.Bytes.{IsBytes};
 ghost use Rattle.row_bytes.specs.Fields.{whole};
 ghost use Rattle.tree_stream.specs.Findings.{no_target};
 ghost use Rattle.tree_stream.specs.Summaries.{CanEnd as CanEndTree};
 ghost use Rattle.tree_stream.specs.Streams.{IsBehind as IsBehindTree, IsSettled, summary_of, target_in};
 ghost use Rattle.tree_stream.specs.declared.target.Target.{Target as PlainTarget};
-ghost use Rattle.reply_stream.specs.ReplyTrees.{CanBecomeTrees, GoesOn, HasNeededByte, IsInFirstTree, IsStateBehind, awaits_count, count_and_first, kept_first, rest_of_open, rest_of_trees, trees_at};
+ghost use Rattle.reply_stream.specs.ReplyTrees.{CanBecomeTrees, GoesOn, HasNeededAndToken, HasNeededByte, IsStateBehind, IsTreeBehind, awaits_count, count_and_first, first_count, kept_first, rest_of_open, rest_of_trees, trees_at};
 
 use crate::trees_state::{OpenTree, TreesState};
 use crate::trees_summary::TreesSummary;
@@ -21,7 +21,7 @@ pub struct TreesStream {
 }
 
 impl TreesStream {
-    ghost use Rattle.reply_stream.specs.TreesStreams.{CanEnd, IsBehind, trees_of};
+    ghost use Rattle.reply_stream.specs.TreesStreams.{CanEnd, IsBehind, held_in, trees_of};
 
     /// A reader that was given no bytes, of trees the first of which is read for a target.
     pub fn new(target: Target) -> TreesStream
@@ -92,6 +92,23 @@ impl TreesStream {
         }
     }
 
+    /// How many bytes are held: the keys of the rows that were found, their values as they are
+    /// encoded, and a token that isn't whole.
+    pub fn held(&self) -> usize
+        ensures count { result ≡ min (held_in self.now) (2 ^ 64 - 1) }
+
+        // No more than was needed of the first tree, and a token.
+        ensures within { (target : PlainTarget) (bytes : List ℕ) → IsBehind target self.now bytes
+            → HasNeededAndToken target.interval bytes result }
+    {
+        match &self.state {
+            TreesState::Count(_) => 0,
+            TreesState::Empty => 0,
+            TreesState::Tree(tree) => first_held(&tree.first).saturating_add(tree.stream.held()),
+            TreesState::Invalid => 0,
+        }
+    }
+
     /// How many trees there are and what was found in the first one, where the last has ended.
     pub fn end(self) -> Option<TreesSummary>
         ensures { result ≡ trees_of self [] }
@@ -106,6 +123,16 @@ impl TreesStream {
             TreesState::Tree(tree) => end_tree(tree),
             TreesState::Invalid => None,
         }
+    }
+}
+
+/// How many bytes of rows are kept of the first tree, once it ended.
+fn first_held(first: &Option<Summary>) -> usize
+    ensures { result ≡ min (first_count first.now) (2 ^ 64 - 1) }
+{
+    match first {
+        Some(summary) => summary.held(),
+        None => 0,
     }
 }
 
@@ -196,10 +223,10 @@ fn feed_open(mut tree: OpenTree, alloc: Global, piece: &[u8]) -> Result<TreesSta
         → rest_of_trees new more ≡ whole (rest_of_open tree (piece.now ++ more))) }
     ensures way { IsErr result → CanEndTree (summary_of tree.stream) }
     ensures behind { IfOk result (λ new. (target : PlainTarget) (bytes : List ℕ)
-        → (tree.first ≡ None → IsInFirstTree target tree.stream bytes)
+        → IsTreeBehind target tree.first tree.stream bytes
         → IsStateBehind target new (bytes ++ piece.now)) }
     ensures memory { IsErr result → (target : PlainTarget) (bytes : List ℕ)
-        → (tree.first ≡ None → IsInFirstTree target tree.stream bytes)
+        → IsTreeBehind target tree.first tree.stream bytes
         → HasNeededByte target.interval bytes piece.now }
 {
     let goes_on = feed_trees(&mut tree, alloc, piece)?;
@@ -214,10 +241,10 @@ fn feed_trees(tree: &mut OpenTree, alloc: Global, piece: &[u8]) -> Result<bool, 
     ensures ok { GoesOn result tree.old tree.new piece.now }
     ensures way { IsErr result → CanEndTree (summary_of tree.old.stream) }
     ensures behind { result ≡ Ok true → (target : PlainTarget) (bytes : List ℕ)
-        → (tree.old.first ≡ None → IsInFirstTree target tree.old.stream bytes)
-        → tree.new.first ≡ None → IsInFirstTree target tree.new.stream (bytes ++ piece.now) }
+        → IsTreeBehind target tree.old.first tree.old.stream bytes
+        → IsTreeBehind target tree.new.first tree.new.stream (bytes ++ piece.now) }
     ensures memory { IsErr result → (target : PlainTarget) (bytes : List ℕ)
-        → (tree.old.first ≡ None → IsInFirstTree target tree.old.stream bytes)
+        → IsTreeBehind target tree.old.first tree.old.stream bytes
         → HasNeededByte target.interval bytes piece.now }
 {
     let mut left = tree.stream.feed(alloc, piece)?;
@@ -239,6 +266,9 @@ fn next_tree(tree: &mut OpenTree, alloc: Global) -> bool
         → whole (rest_of_open tree.old bytes) ≡ None }
     ensures target { result ≡ true → target_in tree.new.stream ≡ no_target }
     ensures kept { result ≡ true → IsTrue (is_some tree.new.first) }
+    ensures behind { result ≡ true → (target : PlainTarget) (bytes : List ℕ)
+        → IsTreeBehind target tree.old.first tree.old.stream bytes
+        → IsTreeBehind target tree.new.first tree.new.stream bytes }
     ensures fewer { result ≡ true → tree.new.left < tree.old.left }
 {
     if tree.left == 0 {

@@ -19,7 +19,7 @@ none_between : (key : List ℕ) → in_interval no_target.interval key ≡ false
 none_between [] = refl
 none_between (byte ∷ bytes) = refl
 
-no_key : (target : Target) (key : List ℕ) → target ≡ no_target → in_interval target.interval key ≡ true → ⊥
+pub no_key : (target : Target) (key : List ℕ) → target ≡ no_target → in_interval target.interval key ≡ true → ⊥
 no_key target key is inside =
     false≢true (sym (none_between key) ∙ sym (ap (λ (t : Target). in_interval t.interval key) is) ∙ inside)
 

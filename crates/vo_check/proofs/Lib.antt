@@ -1,3 +1,4 @@
 pub mod RisingColumns
 pub mod StreamedLaws
 pub mod CheckingLaws
+pub mod HeldLaws

@@ -1,5 +1,5 @@
 -- The check of a reply whose bytes come in pieces: how far it is, and what it stands for.
-use Rattle.std.specs.Prelude.{◌≡◌, ℕ, ◌<◌, Bool, true, false, List, [], ◌++◌, length, Some, None}
+use Rattle.std.specs.Prelude.{◌≡◌, ℕ, ◌+◌, ◌≤◌, ◌<◌, Bool, true, false, List, [], ◌++◌, length, Some, None}
 use Rattle.row_bytes.specs.Fields.{whole}
 use Rattle.vo_spec.specs.declared.queries.QueryText.{QueryText}
 use Rattle.vo_spec.specs.Conditions.{Query}
@@ -7,9 +7,10 @@ use Rattle.vo_spec.specs.Replies.{max_reply}
 use Rattle.reply_stream.specs.declared.trees_stream.TreesStream.{TreesStream}
 use Rattle.reply_stream.specs.Heads.{head_at}
 use Rattle.reply_stream.specs.HeadStreams.{head_of, IsBehind}
-use Rattle.reply_stream.specs.ReplyHeads.{ReplyHead}
-use Rattle.reply_stream.specs.ReplyTrees.{trees_at, HasNeededByte}
+use Rattle.reply_stream.specs.ReplyHeads.{ReplyHead, head_size}
+use Rattle.reply_stream.specs.ReplyTrees.{trees_at, HasNeededByte, HasNeededEntries}
 use Rattle.reply_stream.specs.TreesStreams.{trees_of, IsBehind as IsBehindHead}
+use Rattle.tree_stream.specs.Tokens.{max_token}
 use Rattle.vo_check.specs.declared.progress.Progress.{Progress}
 use Rattle.vo_check.specs.declared.progress.Progress.TheVariants.{Head, Trees, Kept, TooLong, OutOfMemory}
 use Rattle.vo_check.specs.Streaming.{IsStreamed, IsKept}
@@ -65,6 +66,12 @@ StandsBehind q (Kept held) bytes = IsKept q × (held.items ≡ bytes)
 StandsBehind q TooLong bytes = max_reply < length bytes
 StandsBehind q OutOfMemory bytes = Unit {0}
 
+-- of a reply over the limit nothing is held
+abbrev pub StaysWithin : Progress → List ℕ → Type 0
+StaysWithin TooLong bytes = Unit {0}
+StaysWithin OutOfMemory bytes = Unit {0}
+StaysWithin _ bytes = length bytes ≤ max_reply
+
 -- the trees are read as they come only where the query is streamed
 abbrev pub SuitsQuery : Query → Progress → Type 0
 SuitsQuery q (Trees reply) = IsStreamed q
@@ -74,6 +81,17 @@ SuitsQuery q _ = Unit {0}
 
 abbrev pub HasHead : List ℕ → Type 0
 HasHead bytes = (head : ReplyHead) × (behind : List ℕ) × (head_at bytes ≡ Some (head, behind))
+
+-- The bytes have a head in front; so many bytes, and no more, are the head's, those of entries of
+-- the first tree whose keys are in the interval that the query needs, as far as they came, and those
+-- of a token.
+pub record HoldsNeeded (q : Query) (bytes : List ℕ) (count : ℕ) : Type 0 where
+  pub head : ReplyHead
+  pub behind : List ℕ
+  pub needed : ℕ
+  pub head_is : head_at bytes ≡ Some (head, behind)
+  pub has_needed : HasNeededEntries (plan_for q head).interval behind needed
+  pub within : count ≤ head_size head + needed + max_token
 
 -- some byte of the piece is of a row of the first tree whose key is in the interval that the query
 -- needs

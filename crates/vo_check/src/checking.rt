@@ -1,17 +1,19 @@
 //! The check of a reply whose bytes come in pieces.
-ghost use Rattle.std.specs.Prelude.{◌≡◌, ◌⊎◌, ◌≤◌, ◌<◌, ◌^◌, ◌+◌, ◌-◌, ◌++◌, ℕ, List, None, Ok, Err, true, length, IsErr, IsOk, IfOk, OnOk, OnErr};
+ghost use Rattle.std.specs.Prelude.{◌≡◌, ◌⊎◌, ◌≤◌, ◌<◌, ◌^◌, ◌+◌, ◌-◌, ◌++◌, ℕ, List, None, Ok, Err, true, false, length, IsErr, IsOk, IfOk, OnOk, OnErr};
 ghost use Rattle.vo_spec.specs.Bytes.{IsBytes};
 ghost use Rattle.vo_spec.specs.Checks.{CheckOf};
 ghost use Rattle.vo_spec.specs.Conditions.{query_of};
 ghost use Rattle.vo_spec.specs.Replies.{IsNoReply, max_reply};
+ghost use Rattle.reply_stream.specs.Heads.{head_at};
 ghost use Rattle.reply_stream.specs.HeadFronts.{IsHeadFront};
 ghost use Rattle.held_replies.specs.Accepting.{IsSignedReply};
-ghost use Rattle.vo_check.specs.Streaming.{IsStreamed};
-ghost use Rattle.vo_check.specs.Checkings.{HasHead, WantsRow, with_piece, without_memory};
+ghost use Rattle.vo_check.specs.Streaming.{IsKept, IsStreamed};
+ghost use Rattle.vo_check.specs.Checkings.{HasHead, HoldsNeeded, WantsRow, with_piece, without_memory};
 
 use crate::client::Client;
 use crate::ending::end_progress;
 use crate::feeding::{feed_progress, forget_reply};
+use crate::holding::held_in;
 use crate::progress::Progress;
 use reply_stream::ReplyLength;
 use running_hash::{ByteLog, Piece};
@@ -37,7 +39,7 @@ impl<'q> Model for Checking<'q> {
     ghost use Rattle.reply_stream.specs.Lengths.{count_up_to_most};
     ghost use Rattle.std.specs.Coded.{codes};
     ghost use Rattle.vo_spec.specs.contracts.queries.Cond as cond;
-    ghost use Rattle.vo_check.specs.Checkings.{CheckingModel, StandsBehind, is_out_of_memory};
+    ghost use Rattle.vo_check.specs.Checkings.{CheckingModel, StandsBehind, StaysWithin, is_out_of_memory};
 
     ghost Value = { CheckingModel };
 
@@ -51,7 +53,8 @@ impl<'q> Model for Checking<'q> {
 
     ghost invariant = { λ checking. IsBytes checking.log.bytes
         × (checking.count ≡ count_up_to_most (length checking.log.bytes))
-        × StandsBehind (query_of checking.query.now) checking.progress checking.log.bytes };
+        × StandsBehind (query_of checking.query.now) checking.progress checking.log.bytes
+        × StaysWithin checking.progress checking.log.bytes };
 }
 
 impl Checking<'_> {
@@ -84,6 +87,33 @@ impl Checking<'_> {
             return Ok(());
         }
         feed_progress(&mut self.progress, alloc, self.query, piece)
+    }
+
+    /// How many bytes of the reply are held: those of its head, the keys of the rows that were
+    /// found, their values as they are encoded, and a token that isn't whole; or all pieces of a
+    /// reply that is kept. Rows are counted one by one.
+    pub fn held(&self) -> usize
+        // Up to the catalog's last byte these are all that came, or none where they can't be a
+        // head.
+        ensures front { IsStreamed (query_of self.now.query) → (HasHead self.now.bytes → ⊥)
+            → length self.now.bytes ≤ max_reply → self.now.is_out_of_memory ≡ false
+            → (result ≡ length self.now.bytes)
+            ⊎ ((result ≡ 0) × ((more : List ℕ) → head_at (self.now.bytes ++ more) ≡ None)) }
+
+        // Behind it they are no more than the head, the rows that the query needs, as far as they
+        // came, and a token.
+        ensures needed { IsStreamed (query_of self.now.query) → HasHead self.now.bytes
+            → HoldsNeeded (query_of self.now.query) self.now.bytes result }
+
+        // Of a reply that is kept they are all,
+        ensures kept { IsKept (query_of self.now.query) → length self.now.bytes ≤ max_reply
+            → self.now.is_out_of_memory ≡ false → result ≡ length self.now.bytes }
+
+        // and of one over the limit none, nor where a piece found no memory.
+        ensures over { max_reply < length self.now.bytes → result ≡ 0 }
+        ensures out { self.now.is_out_of_memory ≡ true → result ≡ 0 }
+    {
+        held_in(&self.progress)
     }
 
     /// What the client says of the reply that the pieces are, joined. It takes no older version

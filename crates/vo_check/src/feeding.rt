@@ -6,7 +6,7 @@ ghost use Rattle.vo_spec.specs.Replies.{IsNoReply, max_reply};
 ghost use Rattle.reply_stream.specs.Heads.{head_at};
 ghost use Rattle.reply_stream.specs.HeadFronts.{IsHeadFront};
 ghost use Rattle.vo_check.specs.Streaming.{IsStreamed};
-ghost use Rattle.vo_check.specs.Checkings.{HasHead, StandsBehind, WantsRow, is_of_head, is_out_of_memory};
+ghost use Rattle.vo_check.specs.Checkings.{HasHead, StandsBehind, StaysWithin, WantsRow, is_of_head, is_out_of_memory};
 
 use crate::progress::{OpenReply, Progress, put};
 use crate::streaming::is_streamed;
@@ -19,6 +19,7 @@ use vo_spec::QueryText;
 /// Where the check of a reply to this query begins.
 pub(crate) fn first_progress(alloc: Global, query: &QueryText) -> Progress
     ensures stands { StandsBehind (query_of query.now) result [] }
+    ensures within { StaysWithin result [] }
     ensures out { is_out_of_memory result ≡ false }
 {
     if is_streamed(query) {
@@ -32,6 +33,7 @@ pub(crate) fn first_progress(alloc: Global, query: &QueryText) -> Progress
 pub(crate) fn forget_reply(progress: &mut Progress)
     ensures stands { (q : Query) (bytes : List ℕ) → max_reply < length bytes
         → StandsBehind q progress.new bytes }
+    ensures within { (bytes : List ℕ) → StaysWithin progress.new bytes }
     ensures out { is_out_of_memory progress.new ≡ is_out_of_memory progress.old }
 {
     if !matches!(progress, Progress::OutOfMemory) {

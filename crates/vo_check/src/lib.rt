@@ -5,6 +5,7 @@ mod checking;
 mod client;
 mod ending;
 mod feeding;
+mod holding;
 mod progress;
 mod streamed;
 mod streaming;

@@ -1,4 +1,4 @@
-use Rattle.std.proofs.Common.{Ok, refl, arith}
+use Rattle.std.proofs.Common.{List, ℕ, length, Ok, refl, sym, ap, ◌∙◌, arith}
 use Rattle.version_record.proofs.CatalogLaws.{is_catalog}
 use Rattle.reply_stream.proofs.HeadLaws.{bad_catalog, catalog_step}
 use Rattle.reply_stream.proofs.head_fields.take_catalog.Goals as goal
@@ -6,7 +6,7 @@ use Rattle.reply_stream.proofs.head_fields.take_catalog.Goals as goal
 pub invariant_of-result : goal.invariant_of-result
 invariant_of-result c =
     let is = is_catalog c.args.token.now (Ok c.in-Ok.catalog) (λ i. omega (arith, c.type_inv.token i)) c.in-Ok.ensures in
-    is.fits
+    (is.fits, sym c.requires ∙ ap (λ (t : List ℕ). length t) is.encoded)
 
 pub returns-in-Ok-clause-yields : goal.returns-in-Ok-clause-yields
 returns-in-Ok-clause-yields c = record {

@@ -19,9 +19,9 @@ returns-clause-way c = λ err.
 
 pub returns-clause-behind : goal.returns-clause-behind
 returns-clause-behind c =
-    begun_behind c.feed_open.result c.args.target c.args.count c.new.result c.args.behind.now None refl c.new.ensures.target c.new.ensures.behind c.feed_open.ensures.behind
+    begun_behind c.feed_open.result c.args.target c.args.count c.new.result c.args.behind.now c.new.ensures.target c.new.ensures.behind c.feed_open.ensures.behind
 
 pub returns-clause-memory : goal.returns-clause-memory
 returns-clause-memory c = λ err.
     needed_behind_count c.args.target.interval c.args.count c.args.behind.now
-    (c.feed_open.ensures.memory err c.args.target (c.args.count ∷ []) (λ none. first_begun c.args.target c.args.count c.new.result c.new.ensures.target c.new.ensures.behind))
+    (c.feed_open.ensures.memory err c.args.target (c.args.count ∷ []) (first_begun c.args.target c.args.count c.new.result c.new.ensures.target c.new.ensures.behind))

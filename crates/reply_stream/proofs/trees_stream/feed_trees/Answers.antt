@@ -1,10 +1,9 @@
 use Rattle.std.proofs.Common.{◌≡◌, [], subst}
-use Rattle.std.specs.Prelude.{is_some}
-use Rattle.std.proofs.lemmas.Bool.{false≢true}
-use Rattle.tree_stream.specs.declared.stream.TreeStream.{TreeStream}
-use Rattle.reply_stream.specs.ReplyTrees.{IsInFirstTree}
-use Rattle.reply_stream.proofs.NeededBytes.{first_alone, first_fed, needed_in_first}
-use Rattle.std.proofs.Common.{List, ℕ, ◌++◌, refl, sym, ap, ◌∙◌}
+use Rattle.tree_stream.specs.declared.findings.Summary.{Summary}
+use Rattle.reply_stream.specs.ReplyTrees.{IsTreeBehind}
+use Rattle.reply_stream.proofs.KeptRows.{took_all, took_more, tree_fed}
+use Rattle.reply_stream.proofs.NeededBytes.{first_alone, needed_in_first}
+use Rattle.std.proofs.Common.{List, ℕ, Option, ◌++◌, refl, sym, ap, ◌∙◌}
 use Rattle.row_bytes.specs.Fields.{whole}
 use Rattle.reply_stream.specs.ReplyTrees.{rest_of_open}
 use Rattle.reply_stream.proofs.TreesPieces.{empty_is, fed, longer_some, some_is_not}
@@ -23,7 +22,11 @@ trees-preserved c = record {
       fed c.next_tree.new.tree _ c.trees.left.now c.in_ok-left-2.left.now c.in_ok-left-2.ensures.ok refl refl refl more
       ∙ c.next_tree.ensures.next c.if-not-next_tree.false (c.trees.left.now ++ more)
       ∙ c.trees.invariant.each more;
-  started = λ none. absurd (false≢true (sym (ap is_some none) ∙ c.next_tree.ensures.kept c.if-not-next_tree.false));
+  took = λ target bytes behind.
+      let begun = c.trees.invariant.took target bytes behind in
+      took_more target c.next_tree.new.tree.first c.feed-in-trees.new.self bytes _ c.trees.left.now c.in_ok-left-2.left.now begun.0 begun.1
+      (tree_fed target c.next_tree.new.tree.first c.next_tree.new.tree.stream c.feed-in-trees.new.self (bytes ++ begun.0) c.trees.left.now c.in_ok-left-2.left.now
+      (c.next_tree.ensures.behind c.if-not-next_tree.false target (bytes ++ begun.0) begun.2) c.feed-in-trees.ensures.target c.in_ok-left-2.ensures.behind);
   settled = c.in_ok-left-2.ensures.all;
 }
 
@@ -35,13 +38,13 @@ returns-clause-ok c = λ more.
     ∙ fed c.args.tree.now _ c.args.piece.now c.in_ok-left.left.now c.in_ok-left.ensures.ok refl refl refl more
 
 pub returns-in_err-left-clause-memory : goal.returns-in_err-left-clause-memory
-returns-in_err-left-clause-memory c = λ err target bytes first.
-    needed_in_first target c.args.tree.now.stream bytes c.args.piece.now (first (first_alone c.args.tree.now c.in_err-left.ensures.quiet)) (c.in_err-left.ensures.memory refl)
+returns-in_err-left-clause-memory c = λ err target bytes behind.
+    let P : Option Summary → Type 0 = λ first. IsTreeBehind target first c.args.tree.now.stream bytes in
+    let first = subst P (first_alone c.args.tree.now c.in_err-left.ensures.quiet) behind in
+    needed_in_first target c.args.tree.now.stream bytes c.args.piece.now first (c.in_err-left.ensures.memory refl)
 
 pub returns-clause-behind : goal.returns-clause-behind
-returns-clause-behind c = λ is target bytes first none.
-    let start = c.trees.invariant.started none in
-    let all : c.in_ok-left.left.now ≡ [] = sym start.2 ∙ empty_is c.trees.left.now (sym c.is_empty.ensures ∙ c.trees-test.false) in
-    let P : TreeStream → Type 0 = λ stream. IsInFirstTree target stream (bytes ++ c.args.piece.now) in
-    subst P (sym start.1)
-    (first_fed target c.args.tree.now.stream c.feed.new.self bytes c.args.piece.now (first start.0) c.feed.ensures.target (λ tree behind. c.in_ok-left.ensures.behind all tree behind))
+returns-clause-behind c = λ is target bytes behind.
+    let fed = tree_fed target c.args.tree.now.first c.args.tree.now.stream c.feed.new.self bytes c.args.piece.now c.in_ok-left.left.now behind c.feed.ensures.target c.in_ok-left.ensures.behind in
+    let took = took_more target c.trees.tree.first c.trees.tree.stream bytes c.args.piece.now c.in_ok-left.left.now c.trees.left.now fed.0 fed.1 (c.trees.invariant.took target (bytes ++ fed.0) fed.2) in
+    took_all target c.trees.tree.first c.trees.tree.stream bytes c.args.piece.now c.trees.left.now (empty_is c.trees.left.now (sym c.is_empty.ensures ∙ c.trees-test.false)) took

@@ -1,0 +1,33 @@
+//! How many bytes of a reply are held while it is checked.
+ghost use Rattle.std.specs.Prelude.{◌≡◌, ◌⊎◌, ◌+◌, ◌-◌, ◌^◌, ◌≤◌, ◌<◌, ◌++◌, ℕ, List, None, true, false, length, min};
+ghost use Rattle.vo_spec.specs.Conditions.{Query};
+ghost use Rattle.vo_spec.specs.Replies.{max_reply};
+ghost use Rattle.reply_stream.specs.Heads.{head_at};
+ghost use Rattle.vo_check.specs.Streaming.{IsKept, IsStreamed};
+ghost use Rattle.vo_check.specs.Checkings.{HasHead, HoldsNeeded, StandsBehind, StaysWithin, is_out_of_memory};
+
+use crate::progress::Progress;
+
+/// How many bytes the progress holds.
+pub(crate) fn held_in(progress: &Progress) -> usize
+    ensures front { (q : Query) (bytes : List ℕ) → StandsBehind q progress.now bytes
+        → IsStreamed q → (HasHead bytes → ⊥) → length bytes ≤ max_reply
+        → is_out_of_memory progress.now ≡ false → (result ≡ length bytes)
+        ⊎ ((result ≡ 0) × ((more : List ℕ) → head_at (bytes ++ more) ≡ None)) }
+    ensures needed { (q : Query) (bytes : List ℕ) → StandsBehind q progress.now bytes
+        → IsStreamed q → HasHead bytes → HoldsNeeded q bytes result }
+    ensures kept { (q : Query) (bytes : List ℕ) → StandsBehind q progress.now bytes → IsKept q
+        → length bytes ≤ max_reply → is_out_of_memory progress.now ≡ false
+        → result ≡ length bytes }
+    ensures over { (bytes : List ℕ) → StaysWithin progress.now bytes → max_reply < length bytes
+        → result ≡ 0 }
+    ensures out { is_out_of_memory progress.now ≡ true → result ≡ 0 }
+{
+    match progress {
+        Progress::Head(stream) => stream.held(),
+        Progress::Trees(reply) => reply.head.size().saturating_add(reply.trees.held()),
+        Progress::Kept(held) => held.len(),
+        Progress::TooLong => 0,
+        Progress::OutOfMemory => 0,
+    }
+}
