@@ -1,5 +1,5 @@
 -- The rows that are kept of the first tree, and of which bytes they are.
-use Rattle.std.proofs.Common.{◌≡◌, ℕ, ◌+◌, ◌≤◌, List, [], ◌∷◌, ◌++◌, length, flat_map, Option, Some, None, refl, sym, ap, subst, ◌∙◌, append_assoc, append-nil, arith}
+use Rattle.std.proofs.Common.{Bool, true, false, ltb, if◌then◌else◌, ◌≡◌, ℕ, ◌+◌, ◌≤◌, List, [], ◌∷◌, ◌++◌, length, flat_map, Option, Some, None, refl, sym, ap, subst, ◌∙◌, append_assoc, append-nil, arith}
 use Rattle.std.specs.Prelude.{is_some, option_map}
 use Rattle.batch_format.proofs.ReaderLaws.{some_is}
 use Rattle.vo_spec.specs.declared.keys.Interval.{Interval}
@@ -18,9 +18,14 @@ use Rattle.tree_stream.proofs.HeldLaws.{held_needed}
 use Rattle.tree_stream.proofs.KeepingLaws.{fewer, later, none_needed, rows_at}
 use Rattle.tree_stream.proofs.NoTarget.{no_key}
 use Rattle.tree_stream.proofs.ShortLaws.{end_none, end_some}
+use Rattle.row_bytes.specs.Reading.{byte_at}
 use Rattle.reply_stream.specs.declared.trees_state.OpenTree.{OpenTree}
-use Rattle.reply_stream.specs.ReplyTrees.{HasNeededAndToken, HasNeededEntries, IsTreeBehind, first_count, kept_first}
+use Rattle.reply_stream.specs.declared.trees_state.TreesState.{TreesState}
+use Rattle.reply_stream.specs.declared.trees_state.TreesState.TheVariants.{Count, Empty, Tree, Invalid}
+use Rattle.reply_stream.specs.declared.trees_summary.TreesSummary.{TreesSummary}
+use Rattle.reply_stream.specs.ReplyTrees.{HasNeededAndToken, HasNeededEntries, IsTreeBehind, count_and_first, first_count, held_at, kept_first, rest_of_trees, trees_at}
 use Rattle.reply_stream.proofs.EndedTrees.{some_none, summary_in}
+use Rattle.reply_stream.proofs.TreesLaws.{end_found, end_lost}
 
 -- a piece was taken up to what is left of it
 abbrev pub TookFront : Target → Option Summary → TreeStream → List ℕ → List ℕ → List ℕ → Type 0
@@ -66,6 +71,10 @@ pub took_all : (target : Target) (first : Option Summary) (new : TreeStream) (by
 took_all target first new bytes piece left none took =
     let P : List ℕ → Type 0 = λ t. IsTreeBehind target first new (bytes ++ t) in
     subst P (sym (took.1 ∙ ap (λ (t : List ℕ). took.0 ++ t) none ∙ append-nil took.0)) took.2
+
+pub no_bytes_needed : (interval : Interval) (bytes : List ℕ) → HasNeededEntries interval bytes 0
+no_bytes_needed interval [] = refl
+no_bytes_needed interval (count ∷ tree) = none_needed interval tree
 
 -- no bytes yet
 pub took_none : (target : Target) (first : Option Summary) (stream : TreeStream) (bytes piece : List ℕ) → IsTreeBehind target first stream bytes → TookFront target first stream bytes piece piece
@@ -131,3 +140,27 @@ open_held target tree bytes count le behind = by tree.first refl behind le
         let has = held_needed tree.stream behind.1.0 (held_in_tree tree.stream) (omega arith) behind.1.1 in
         let none : has.needed ≡ 0 = nothing_needed (target_in tree.stream) behind.1.0 has.needed (tree.later (ap is_some is)) has.has_needed in
         record { needed = length (rows_bytes first.findings.rows); has_needed = behind.0; within = omega (arith, le, has.within, none) }
+
+-- Behind the last tree the rows of the first one are held, or more.
+
+if_some : {A : Type 0} (b : Bool) (x y : A) → (if b then None else Some x) ≡ Some y → x ≡ y
+if_some true x y e = absurd cc
+if_some false x y e = some_is x y e
+
+at_least_first : (stream : TreeStream) (first : Option Summary) (t : Summary) → Some t ≡ option_map summary_in (summary_of stream []) → first_count (Some (kept_first first t)) ≤ first_count first + held_in_tree stream
+at_least_first stream None t e = omega (arith, ap (λ (rows : List SeenRow). length (rows_bytes rows)) (rows_of_ended stream t e))
+at_least_first stream (Some first) t e = omega arith
+
+pub found_held : (state : TreesState) (s : TreesSummary) → rest_of_trees state [] ≡ Some s → first_count s.first ≤ held_at state
+unfolding rest_of_trees trees_at byte_at
+found_held (Count target) s e = absurd cc
+found_held Empty s e = let none : None ≡ s.first = ap (λ (t : TreesSummary). t.first) (some_is (count_and_first 0 None) s e) in omega (arith, ap first_count none)
+found_held (Tree tree) s e = by (option_map summary_in (summary_of tree.stream [])) refl
+  where
+    by : (o : Option Summary) → option_map summary_in (summary_of tree.stream []) ≡ o → first_count s.first ≤ held_at (Tree tree)
+    by None none = absurd (some_none s (sym (end_lost tree (sym none) ∙ e)))
+    by (Some t) is =
+        let found : TreesSummary = count_and_first tree.count (Some (kept_first tree.first t)) in
+        let same : found ≡ s = if_some (ltb 0 tree.left) found s (end_found tree t (sym is) ∙ e) in
+        omega (arith, ap (λ (u : TreesSummary). first_count u.first) same, at_least_first tree.stream tree.first t (sym is))
+found_held Invalid s e = absurd cc

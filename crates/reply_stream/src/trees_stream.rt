@@ -1,11 +1,12 @@
 //! The trees of a reply, whose bytes come in pieces behind the catalog's last byte.
-ghost use Rattle.std.specs.Prelude.{◌≡◌, ◌<◌, ◌-◌, ◌^◌, ◌++◌, ◌≢◌, ◌∷◌, ℕ, min, List, [], Some, None, Ok, true, false, nat_lt, if◌then◌else◌, is_some, IsTrue, IsErr, IsOk, IfOk, OnOk, OnErr};
+ghost use Rattle.std.specs.Prelude.{◌≡◌, ◌<◌, ◌≤◌, ◌-◌, ◌^◌, ◌++◌, ◌≢◌, ◌∷◌, ℕ, min, List, [], Some, None, Ok, true, false, nat_lt, if◌then◌else◌, is_some, IsTrue, IsErr, IsOk, IfOk, OnOk, OnErr};
 ghost use Rattle.vo_spec.specs.Bytes.{IsBytes};
 ghost use Rattle.row_bytes.specs.Fields.{whole};
 ghost use Rattle.tree_stream.specs.Findings.{no_target};
 ghost use Rattle.tree_stream.specs.Summaries.{CanEnd as CanEndTree};
 ghost use Rattle.tree_stream.specs.Streams.{IsBehind as IsBehindTree, IsSettled, summary_of, target_in};
 ghost use Rattle.tree_stream.specs.declared.target.Target.{Target as PlainTarget};
+ghost use Rattle.reply_stream.specs.declared.trees_summary.TreesSummary.{TreesSummary as PlainSummary};
 ghost use Rattle.reply_stream.specs.ReplyTrees.{CanBecomeTrees, GoesOn, HasNeededAndToken, HasNeededByte, IsStateBehind, IsTreeBehind, awaits_count, count_and_first, first_count, kept_first, rest_of_open, rest_of_trees, trees_at};
 
 use crate::trees_state::{OpenTree, TreesState};
@@ -100,6 +101,10 @@ impl TreesStream {
         // No more than was needed of the first tree, and a token.
         ensures within { (target : PlainTarget) (bytes : List ℕ) → IsBehind target self.now bytes
             → HasNeededAndToken target.interval bytes result }
+
+        // Behind the last tree these are all rows that were found, or more.
+        ensures found { (summary : PlainSummary) → trees_of self.now [] ≡ Some summary
+            → min (first_count summary.first) (2 ^ 64 - 1) ≤ result }
     {
         match &self.state {
             TreesState::Count(_) => 0,

@@ -70,7 +70,7 @@ module _ (q : Query) (head : ReplyHead) where
       needed = memory (plan_for q head) reads.behind reads.trees_behind;
     }
 
-    abbrev with_head : Option TreesSummary → Option Parts
+    abbrev pub with_head : Option TreesSummary → Option Parts
     with_head found = found >>= λ summary. let parts : Option Parts = Some (head, summary) in parts
 
     -- what comes of the bytes and of more of them
@@ -90,7 +90,7 @@ module _ (q : Query) (head : ReplyHead) where
             let reply = parts_found (plan_for q) (bytes ++ more) (head, summary) (IsBytes-append bytes more fits more_fit) (parts_with more ∙ ap with_head e) in
             absurd (none more more_fit reply.0 reply.1)
 
-    parts_at_end : reply_parts (plan_for q) bytes ≡ with_head (trees_of trees [])
+    pub parts_at_end : reply_parts (plan_for q) bytes ≡ with_head (trees_of trees [])
     parts_at_end = ap (reply_parts (plan_for q)) (sym (append-nil bytes)) ∙ parts_with []
 
     -- Once the last byte came: a reply, with its head and what was found in its trees, or none.

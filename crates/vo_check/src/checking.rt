@@ -1,5 +1,5 @@
 //! The check of a reply whose bytes come in pieces.
-ghost use Rattle.std.specs.Prelude.{◌≡◌, ◌⊎◌, ◌≤◌, ◌<◌, ◌^◌, ◌+◌, ◌-◌, ◌++◌, ℕ, List, None, Ok, Err, true, false, length, IsErr, IsOk, IfOk, OnOk, OnErr};
+ghost use Rattle.std.specs.Prelude.{◌≡◌, ◌⊎◌, ◌≤◌, ◌<◌, ◌^◌, ◌+◌, ◌-◌, ◌++◌, ℕ, List, None, Some, Ok, Err, true, false, length, min, IsErr, IsOk, IfOk, OnOk, OnErr};
 ghost use Rattle.vo_spec.specs.Bytes.{IsBytes};
 ghost use Rattle.vo_spec.specs.Checks.{CheckOf};
 ghost use Rattle.vo_spec.specs.Conditions.{query_of};
@@ -7,6 +7,11 @@ ghost use Rattle.vo_spec.specs.Replies.{IsNoReply, max_reply};
 ghost use Rattle.reply_stream.specs.Heads.{head_at};
 ghost use Rattle.reply_stream.specs.HeadFronts.{IsHeadFront};
 ghost use Rattle.held_replies.specs.Accepting.{IsSignedReply};
+ghost use Rattle.reply_stream.specs.ReplyHeads.{ReplyHead, head_size};
+ghost use Rattle.reply_stream.specs.ReplyParts.{reply_parts};
+ghost use Rattle.reply_stream.specs.ReplyTrees.{first_count};
+ghost use Rattle.reply_stream.specs.declared.trees_summary.TreesSummary.{TreesSummary as PlainSummary};
+ghost use Rattle.vo_check.specs.Streamed.{plan_for};
 ghost use Rattle.vo_check.specs.Streaming.{IsKept, IsStreamed};
 ghost use Rattle.vo_check.specs.Checkings.{HasHead, HoldsNeeded, WantsRow, with_piece, without_memory};
 
@@ -104,6 +109,13 @@ impl Checking<'_> {
         // came, and a token.
         ensures needed { IsStreamed (query_of self.now.query) → HasHead self.now.bytes
             → HoldsNeeded (query_of self.now.query) self.now.bytes result }
+
+        // Of a whole reply they are the head and all rows that were found, or more.
+        ensures found { IsStreamed (query_of self.now.query) → (head : ReplyHead)
+            (trees : PlainSummary)
+            → reply_parts (plan_for (query_of self.now.query)) self.now.bytes ≡ Some (head, trees)
+            → length self.now.bytes ≤ max_reply → self.now.is_out_of_memory ≡ false
+            → min (head_size head + first_count trees.first) (2 ^ 64 - 1) ≤ result }
 
         // Of a reply that is kept they are all,
         ensures kept { IsKept (query_of self.now.query) → length self.now.bytes ≤ max_reply

@@ -1,4 +1,4 @@
-use Rattle.std.proofs.Common.{◌++◌, ◌∷◌, [], None, refl, ◌∙◌, arith}
+use Rattle.std.proofs.Common.{◌++◌, ◌∷◌, [], refl, ◌∙◌, arith}
 use Rattle.reply_stream.proofs.NeededBytes.{begun_behind, first_begun, needed_behind_count}
 use Rattle.reply_stream.proofs.TreesPieces.{count_way, count_and_first_one, count_and_first_none, ok_trees}
 use Rattle.reply_stream.proofs.trees_stream.begin_trees.Goals as goal

@@ -1,4 +1,4 @@
-use Rattle.std.proofs.Common.{◌≡◌, [], subst}
+use Rattle.std.proofs.Common.{subst}
 use Rattle.tree_stream.specs.declared.findings.Summary.{Summary}
 use Rattle.reply_stream.specs.ReplyTrees.{IsTreeBehind}
 use Rattle.reply_stream.proofs.KeptRows.{took_all, took_more, tree_fed}

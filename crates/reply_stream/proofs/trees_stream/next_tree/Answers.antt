@@ -1,4 +1,4 @@
-use Rattle.std.proofs.Common.{List, ℕ, [], refl, subst, sym, ap, ◌∙◌, arith}
+use Rattle.std.proofs.Common.{[], refl, subst, sym, ap, ◌∙◌, arith}
 use Rattle.std.specs.Prelude.{option_map}
 use Rattle.tree_stream.specs.declared.target.Target.{Target}
 use Rattle.tree_stream.specs.declared.stream.TreeStream.{TreeStream}

@@ -5,7 +5,7 @@ use Rattle.reply_stream.specs.ReplyHeads.{head_size}
 use Rattle.vo_check.specs.Streamed.{plan_for}
 use Rattle.vo_check.specs.Checkings.{StandsBehind}
 use Rattle.vo_check.specs.declared.progress.Progress.{Progress}
-use Rattle.vo_check.proofs.HeldLaws.{front_held, has_head, holds_none, holds_reply, no_head_yet, not_both}
+use Rattle.vo_check.proofs.HeldLaws.{front_held, has_head, holds_none, holds_reply, no_head_at, no_head_yet, none_whole, not_both, whole_held}
 use Rattle.vo_check.proofs.holding.held_in.Goals as goal
 
 pub returns-in-Head-clause-front : goal.returns-in-Head-clause-front
@@ -47,5 +47,21 @@ returns-in-Kept-clause-front c = λ q bytes stands streamed none within going.
 
 pub returns-in-Kept-clause-needed : goal.returns-in-Kept-clause-needed
 returns-in-Kept-clause-needed c = λ q bytes stands streamed has.
+    let here = subst (λ (p : Progress). StandsBehind q p bytes) c.in-Kept.is stands in
+    absurd (not_both q streamed here.0)
+
+pub returns-in-Head-clause-found : goal.returns-in-Head-clause-found
+returns-in-Head-clause-found c = λ q bytes head trees stands streamed parts within going.
+    let here = subst (λ (p : Progress). StandsBehind q p bytes) c.in-Head.is stands in
+    absurd (none_whole (plan_for q) bytes head trees (no_head_at c.in-Head.stream bytes here.1 here.2) parts)
+
+pub returns-in-Trees-clause-found : goal.returns-in-Trees-clause-found
+returns-in-Trees-clause-found c = λ q bytes head trees stands streamed parts within going.
+    let here = subst (λ (p : Progress). StandsBehind q p bytes) c.in-Trees.is stands in
+    let all = whole_held q c.in-Trees.reply bytes head trees here.1 parts in
+    omega (arith, all.0, c.held-in-Trees.ensures.found trees all.1, c.size.ensures, c.saturating_add.ensures)
+
+pub returns-in-Kept-clause-found : goal.returns-in-Kept-clause-found
+returns-in-Kept-clause-found c = λ q bytes head trees stands streamed parts within going.
     let here = subst (λ (p : Progress). StandsBehind q p bytes) c.in-Kept.is stands in
     absurd (not_both q streamed here.0)
