@@ -2,12 +2,14 @@
 
 A reply that is near the one before is spelled as that one with other bytes in it; of bytes that stand many times, one.
 """
+import itertools
 import os
 import re
 
 from lines import forms
 from reference.check import check_of
 from reference.faults import CheckFault
+from reference.held import held_behind
 from reference.sql import parse_query
 
 LONG_RUN = re.compile(rb"\0{32,}|k{32,}|x{32,}")
@@ -82,6 +84,13 @@ class Reader:
         count = next((at for at, answer in enumerate(answers) if answer != first), len(answers))
         then = "".join(f", then {other}" for other in answers[count:count + 1])
         return line("fronts", least, sizes), f"{count} * {first}{then}"
+
+    def held(self, sizes):
+        """How many bytes are held before the first piece, and behind each."""
+        ends, given = [0], itertools.cycle(int(size) for size in sizes.split("+"))
+        while ends[-1] < len(self.data):
+            ends.append(min(len(self.data), ends[-1] + next(given)))
+        return line("held", sizes), " ".join(str(count) for count in held_behind(self.query, self.data, ends))
 
     def file(self, size, path, least=0):
         """A check of the reply's bytes where the file has them."""

@@ -158,7 +158,7 @@ def no_lines():
     yield reader.ask(RANGE)
     # no bytes are no reply
     yield from (reader.check("1"), reader.fronts("1"), reader.reply(b""), reader.check("1"))
-    for text in ("check 1", "check x 1", "check 0 x", "check 0 0+0", "check -1 1", "file 0 1 gone", "file 0 x reply"):
+    for text in ("held", "held 0", "held x", "check 1", "check x 1", "check 0 x", "check 0 0+0", "check -1 1", "file 0 1 gone", "file 0 x reply"):
         yield text, NO_LINE
 
 
@@ -173,6 +173,7 @@ def honest_replies():
         reader, lines = Honest(text).begun()
         yield from lines
         yield from reader.checks(*EACH, "3+1+500", "0+2+0")
+        yield from (reader.held(sizes) for sizes in ("61", "0+500+1"))
     # the version that a client takes at the least
     yield from (line_of for least in (2, 3, 4, 2 ** 64 - 1) for line_of in reader.checks("1", least=least))
     reader, lines = Honest("SELECT * FROM t").begun()
@@ -183,7 +184,7 @@ def honest_joins():
     for text in (JOIN, "SELECT a.id, b.name FROM t AS a JOIN t AS b ON a.id = b.id WHERE a.id < 4"):
         reader, lines = Honest(text).begun()
         yield from lines
-        yield from reader.checks(*EACH)
+        yield from (*reader.checks(*EACH), reader.held("61+500"))
 
 
 def queries_that_do_not_bind():
@@ -356,7 +357,7 @@ def longer_replies():
     reader, lines = honest.begun()
     yield from (*lines, *reader.hostile(most, "65536", "1000003"), *reader.hostile(most + b"\0", "65536", "1000003"))
     reader, lines = Honest(JOIN).begun()
-    yield from (*lines, *reader.hostile(bytes(REPLY_LIMIT + 99), "65536"))
+    yield from (*lines, *reader.hostile(bytes(REPLY_LIMIT + 99), "65536"), reader.held(f"{REPLY_LIMIT}+1"))
 
 
 def no_replies():

@@ -1,5 +1,6 @@
 //! The answer to a line.
 use crate::file_checks::check_file;
+use crate::held_counts::count_held;
 use crate::line::{Line, read_line};
 use crate::reply_checks::{check_both_ways, check_fronts};
 use crate::state::State;
@@ -34,6 +35,7 @@ fn answer_line<R: Files>(
         Line::Splice(splice) => state.splice_reply(alloc, &splice),
         Line::Check(pieces) => check_both_ways(alloc, state, &pieces, &state.reply),
         Line::Fronts(pieces) => check_fronts(alloc, state, &pieces),
+        Line::Held(sizes) => count_held(alloc, state, &sizes),
         Line::File(pieces) => check_file(rt, alloc, state, &pieces),
     }
 }

@@ -11,7 +11,8 @@
 //! answer, and the least version that the client takes then; where the two ways differ, `whole`
 //! stands before the first one's and `pieces` before the other's. `fronts LEAST SIZES` does so with
 //! each shorter front of the reply, the shortest first, and says how many of them have the answer
-//! of the first one, and what the next one has, if there is one. `file LEAST SIZE PATH` checks the
+//! of the first one, and what the next one has, if there is one. `held SIZES` says how many
+//! bytes are held before the first piece, and behind each. `file LEAST SIZE PATH` checks the
 //! bytes of a file in pieces alone, of at most SIZE bytes, each read once the one before is fed.
 //!
 //! Bytes are in hexadecimal, in pieces with a blank between; digits of a piece that stands several
@@ -20,6 +21,7 @@
 
 mod answers;
 mod file_checks;
+mod held_counts;
 mod line;
 mod reply_checks;
 mod state;

@@ -11,6 +11,7 @@ pub enum Line {
     Splice(Splice),
     Check(Pieces),
     Fronts(Pieces),
+    Held(Vec<usize>),
     File(FilePieces),
 }
 
@@ -49,6 +50,7 @@ pub fn read_line(alloc: Global, line: &str) -> Result<Line, NoAnswer> {
         "splice" => Line::Splice(splice_of(alloc, rest)?),
         "check" => Line::Check(pieces_of(alloc, rest)?),
         "fronts" => Line::Fronts(pieces_of(alloc, rest)?),
+        "held" => Line::Held(sizes_of(alloc, rest)?),
         "file" => Line::File(file_of(alloc, rest)?),
         _ => return Err(NoAnswer::NoSuchLine),
     })

@@ -1,15 +1,14 @@
 -- How many bytes a check holds, by those that came.
-use Rattle.std.proofs.Common.{◌≡◌, ℕ, ◌+◌, ◌-◌, ◌^◌, ◌<◌, ◌≤◌, List, [], ◌∷◌, ◌++◌, length, Option, Some, None, true, false, refl, sym, ap, subst, ◌∙◌, ◌⊎◌, inl, inr, append-nil, arith}
+use Rattle.std.proofs.Common.{◌≡◌, ℕ, ◌+◌, ◌≤◌, List, [], ◌++◌, length, Option, Some, None, refl, sym, ap, ◌∙◌, ◌⊎◌, inl, inr, append-nil, arith}
 use Rattle.std.specs.Prelude.{is_some}
 use Rattle.std.proofs.lemmas.Bool.{false≢true}
 use Rattle.vo_spec.specs.Conditions.{Query}
 use Rattle.vo_spec.specs.Replies.{max_reply}
 use Rattle.reply_stream.specs.declared.head_stream.HeadStream.{HeadStream}
-use Rattle.reply_stream.specs.declared.trees_stream.TreesStream.{TreesStream}
 use Rattle.reply_stream.specs.Heads.{head_at}
 use Rattle.reply_stream.specs.HeadStreams.{head_of}
 use Rattle.reply_stream.specs.ReplyHeads.{ReplyHead, head_size}
-use Rattle.reply_stream.specs.ReplyTrees.{HasNeededAndToken, HasNeededEntries, first_count, trees_at}
+use Rattle.reply_stream.specs.ReplyTrees.{HasNeededAndToken, trees_at}
 use Rattle.reply_stream.specs.ReplyParts.{reply_parts}
 use Rattle.reply_stream.specs.declared.trees_summary.TreesSummary.{TreesSummary}
 use Rattle.reply_stream.specs.TreesStreams.{trees_of}
@@ -22,7 +21,7 @@ use Rattle.vo_check.specs.declared.progress.Progress.TheVariants.{Head, Trees, K
 use Rattle.vo_check.proofs.CheckingLaws.{parts_at_end}
 use Rattle.vo_check.specs.Streamed.{plan_for}
 use Rattle.vo_check.specs.Streaming.{IsKept, IsStreamed}
-use Rattle.vo_check.specs.Checkings.{HasHead, HoldsNeeded, ReadsTrees, StandsBehind, StaysWithin}
+use Rattle.vo_check.specs.Checkings.{HasHead, HoldsNeeded, ReadsTrees, StaysWithin}
 
 pub within_any : (progress : Progress) (bytes : List ℕ) → length bytes ≤ max_reply → StaysWithin progress bytes
 within_any (Head stream) bytes le = le

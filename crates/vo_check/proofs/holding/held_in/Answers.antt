@@ -1,11 +1,9 @@
-use Rattle.std.proofs.Common.{List, ℕ, ◌≡◌, ◌+◌, ◌≤◌, sym, ap, subst, ◌∙◌, arith}
+use Rattle.std.proofs.Common.{subst, arith}
 use Rattle.std.proofs.Math.Nat.{min-le_left}
-use Rattle.vo_spec.specs.Conditions.{Query}
-use Rattle.reply_stream.specs.ReplyHeads.{head_size}
 use Rattle.vo_check.specs.Streamed.{plan_for}
 use Rattle.vo_check.specs.Checkings.{StandsBehind}
 use Rattle.vo_check.specs.declared.progress.Progress.{Progress}
-use Rattle.vo_check.proofs.HeldLaws.{front_held, has_head, holds_none, holds_reply, no_head_at, no_head_yet, none_whole, not_both, whole_held}
+use Rattle.vo_check.proofs.HeldLaws.{front_held, has_head, holds_reply, no_head_at, no_head_yet, none_whole, not_both, whole_held}
 use Rattle.vo_check.proofs.holding.held_in.Goals as goal
 
 pub returns-in-Head-clause-front : goal.returns-in-Head-clause-front
