@@ -3,12 +3,12 @@
 import unittest
 
 from .. import stages
-from ..cli import run
 from ..formats import journal_bytes
 from ..generators.worlds import SEED, SealedScript
-from ..outside import MemDisk, MemLink, MemNet, MemShelf, MemSink, PeerNet
+from ..outside import MemDisk, MemLink, MemNet, PeerNet
 from ..store import load_journal
 from ..wire import frame, serve_link
+from .runs import Runs
 
 SCRIPT = (b"CREATE TABLE t (id BIGINT, name TEXT, PRIMARY KEY (id)); COMMIT; "
           b"INSERT INTO t VALUES (9, 'ann'); INSERT INTO t VALUES (7, 'it''s'); COMMIT;")
@@ -17,21 +17,14 @@ QUERY = "SELECT * FROM t WHERE id > 7"
 ROWS = b"version 2\nid,name\n9,'ann'\n"
 
 
-class Commands(unittest.TestCase):
+class Commands(Runs):
     """Each command once on its plain path, and some of its refusals."""
 
     def setUp(self):
         self.files = {"seed": SEED, "script": SCRIPT}
         for name, words in (("key", ["keygen", "seed"]), ("journal", ["seal", "seed", "script"]),
                             ("reply", ["answer", "key", "journal", QUERY])):
-            status, self.files[name] = self.ran(*words)
-            self.assertEqual(status, 0, name)
-
-    def ran(self, *words, net=None, disk=None):
-        """Status and output."""
-        sink, files = MemSink(), MemShelf(self.files)
-        status = run(["vo_cli", *words], files, disk or MemDisk(), net or MemNet(), sink)
-        return status, bytes(sink.written)
+            self.files[name] = self.made(*words)
 
     def test_check(self):
         """The rows, and a version that is too old."""
