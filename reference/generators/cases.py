@@ -3,6 +3,7 @@
 import random
 
 from ..formats import slot_bytes
+from ..printing import print_batch
 from ..sql import parse_query
 from ..stages import has
 from .mutate import opened_variants, reply_variants, resigned_variants
@@ -34,9 +35,20 @@ def key_words():
         ["keygen", SEED[:47]], ["keygen", b""], ["keygen", SEED + b"\0"], ["keygen", "absent"],
         ["seal", SEED], ["seal", "absent", b"bad"], ["seal", SEED[:4], "absent"],
         ["seal", SEED, "absent"], ["seal", SEED, b"\xff\xfe"], ["seal", SEED, b""],
-        ["seal", SEED, b" \n\t\r"], ["gen", "0", "0"], ["gen", "1", "0"], ["gen", "100001", "0"],
-        ["gen", "1"], ["gen", "1", "18446744073709551616"], ["gen", "3", "18446744073709551615"],
-        ["gen", "250", "7"], ["gen", "40", "1"], ["gen", "101", "2"],
+        ["seal", SEED, b" \n\t\r"], ["keygen", SEED, "--at", "0"],
+        ["seal", SEED, b"", "--at", "0"], *gen_words(),
+    ]
+
+
+def gen_words():
+    """Workloads that there are none of, and the smallest one."""
+    steps = "0", "100001", "01", "+1", "-1", "", "1.0", " 1", "one", "\u0661", "18446744073709551617"
+    numbers = "18446744073709551616", "00", "07", "+0", "-1", "", "0x1", "1e3", " 0"
+    return [
+        *(["gen", step, "0"] for step in steps), *(["gen", "1", number] for number in numbers),
+        ["gen"], ["gen", "1"], ["gen", "1", "0", "0"], ["gen", "1", "0", "--height", "10"],
+        ["gen", "1", "0", "--at", "1"], ["gen", "--", "-1", "0"], ["gen", "1", "--", "-0"],
+        ["gen", "--", "1", "0"],
     ]
 
 
@@ -75,7 +87,27 @@ def journal_words(pub):
         ["audit", pub, b"\0", TEXT, b"", "--seed", SEED, "--levels", "2"],
         ["audit", pub, b"\0", TEXT, b"", "--levels", "2", "--height", "10"],
         ["meet", pub, TEXT, b"", b""], ["meet", pub, TEXT, b"", "absent"],
+        ["serve", "127.0.0.1:1", pub, b"\1\1", "1", "--at", "0"],
+        ["audit", pub, b"\0", TEXT, b"", "--at", "0"], ["meet", pub, TEXT, b"", b"", "--at", "0"],
+        *(words + at for at in at_options() for words in (
+            ["answer", pub, b"\0", TEXT], ["answer", pub, b"\0", "SELECT"],
+            ["ask", "127.0.0.1:1", pub[:55], TEXT], ["ask", "127.0.0.1:1", pub, "SELECT"])),
+        ["answer", "--at", "1", pub, b"\0", TEXT], ["answer", pub, "--at=1", b"\0", TEXT],
+        ["answer", pub, b"\0", "--at", "1"], ["answer", pub, b"\0", TEXT, "--", "--at", "1"],
+        ["answer", pub, "absent", TEXT, "--at", "1"], ["ask", "127.0.0.1:1", pub, "--at", "1"],
+        ["ask", "127.0.0.1:1", "--at", "1", pub, "SELECT", "--least", "0"],
+        ["ask", "127.0.0.1:1", pub, "SELECT", "--least=2", "--at=1"],
+        ["answer", pub, b"\0", TEXT, "--at", "1", "--least", "0"],
     ]
+
+
+def at_options():
+    """The option for a version, right and wrong."""
+    numbers = ("0", "1", "18446744073709551615", "18446744073709551616", "100000000000000000000",
+               "01", "00", "+1", "-1", "1a", "", " 1", "1.0", "\u0661", "-", "--")
+    return [*(["--at", number] for number in numbers), ["--at=1"], ["--at="], ["--at=01"], ["--at"],
+            ["--a", "1"], ["-at", "1"], ["--At", "1"], ["--at", "1", "--at", "1"],
+            ["--at=1", "--at=2"], ["--at", "--at"]]
 
 
 def word_cases():
@@ -97,6 +129,46 @@ def border_cases(seed):
         data = world.store.answer_at(version, parse_query(TEXT))
         yield "check over borders", ["check", world.public_bytes, TEXT, data]
         yield "audit over borders", ["audit", world.public_bytes, world.journal, TEXT, data]
+
+
+def version_cases(rng, seed, size):
+    """Answers by the versions of journals: all of short ones, and of ones that have more versions
+    than are kept those at each end, some between them, and such as are too old or too new."""
+    if not has("versions"):
+        return
+    for number in range(size):
+        work = Workload(seed * 1000 + 700 + number, batches=9, commands=6, queries=8)
+        world = SealedScript(work.script)
+        yield from _answers_at(rng, world, work.queries, range(world.store.version() + 3))
+    if has("levels"):
+        ends = [0, *range(4, 11), *range(68, 74), *rng.sample(range(11, 68), 8)]
+        yield from _answers_at(rng, *long_world(seed, levels=2), ends)
+    if seed == 1:
+        yield from _answers_at(rng, *long_world(seed, height=10), range(73))
+
+
+def long_world(seed, **shape):
+    """Small tables of 71 versions under a key of this shape, and queries on them."""
+    work = Workload(seed * 1000 + 800, tables=2, batches=80, commands=2, queries=8)
+    script = "".join(print_batch(batch) + " COMMIT ;" for batch in work.batches[:70])
+    return SealedScript(script, **shape), work.queries
+
+
+def _answers_at(rng, world, texts, versions):
+    """What these versions answer, and what is said of it."""
+    store, newest = world.store, world.store.version()
+    oldest = store.kept[0].rec.version
+    for version in [*versions, (1 << 64) - 1]:
+        text = rng.choice(texts)
+        words = ["answer", world.public_bytes, world.journal, text, "--at", str(version)]
+        yield "answer at", words
+        if not oldest <= version <= newest:
+            continue
+        reply = store.answer_at(version, parse_query(text))
+        yield "check at", ["check", world.public_bytes, text, reply, "--least", str(version)]
+        yield "meet at", ["meet", world.public_bytes, text, reply, world.reply(text)]
+        if rng.random() < 0.2:
+            yield "audit at", ["audit", world.public_bytes, world.journal, text, reply]
 
 
 def turns(count):
@@ -208,3 +280,4 @@ def all_cases(seed, size):
     yield from workload_cases(rng, seed, size)
     yield from hostile_cases(rng, seed, size)
     yield from journal_cases(rng, seed, size)
+    yield from version_cases(rng, seed, size)

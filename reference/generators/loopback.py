@@ -14,11 +14,13 @@ import threading
 import time
 
 from ..cli import run
-from ..formats import journal_bytes, long_bytes
+from ..formats import batch_bytes, journal_bytes, long_bytes
 from ..outside import MemDisk, MemLink, MemNet, MemShelf, MemSink, PeerNet
-from ..sql import parse_script
+from ..sql import parse_query, parse_script
+from ..stages import has
 from ..store import Store
-from ..wire import frame, serve_link
+from ..wire import frame, install_frame, serve_link
+from .cases import long_world
 from .folders import file_name, write_files
 from .mutate import proof_variants
 from .workload import Workload
@@ -42,13 +44,14 @@ class SocketLink:
         """Sends all of them."""
         self.sock.sendall(piece)
 
-    def frame_ends(self):
-        """Takes a frame; whether a whole one came."""
-        head = self.get(4)
-        left = int.from_bytes(head, "big")
+    def frame(self):
+        """Takes a frame: its bytes, or none where no whole one came."""
+        came = self.get(4)
+        left = int.from_bytes(came, "big")
         while left and (piece := self.get(left)):
+            came += piece
             left -= len(piece)
-        return len(head) == 4 and not left
+        return b"" if left or len(came) < 4 else came
 
     def rest(self):
         """All that still comes."""
@@ -76,6 +79,24 @@ def connected(port):
             if time.monotonic() > end:
                 raise
             time.sleep(0.05)
+
+
+def asking(version, text):
+    """The frame that asks for a version's answer."""
+    return frame(5, version.to_bytes(8, "big") + text)
+
+
+def installed_and_asked(world, first, text):
+    """Requests by which a store takes the entries from the first one on, and gives answers of
+    versions at both ends of what it keeps: before a batch is proposed, then, and once installed."""
+    requests = []
+    for version, entry in enumerate(world.entries[first:], first):
+        ends = version - 64, version - 63, version - 1, version
+        asked = [asking(at, text.encode()) for at in ends if at >= 0]
+        proposed = [frame(3, batch_bytes(entry.batch))] * (version > 0)
+        installed = install_frame(entry.rec, entry.signature)
+        requests += [*asked, *proposed, *asked, installed, *asked]
+    return b"".join(requests)
 
 
 def is_cut(said):
@@ -117,7 +138,8 @@ class Loopback:
 
     def comparisons(self):
         """All of them."""
-        for part in (self.serve, self.ask, self.own, self.lies, self.journals):
+        parts = [self.serve, self.ask, self.own, self.lies, self.journals]
+        for part in parts + [self.versions] * has("versions"):
             yield from part()
 
     # -- the program
@@ -143,21 +165,38 @@ class Loopback:
     def streams(self):
         """Bytes that come to a store: requests, and such as are none."""
         query, record = frame(1, self.queries[0].encode()), self.world.entries[1].rec.bytes()
-        at = (1).to_bytes(8, "big"), (99).to_bytes(8, "big")
+        at, text = (1).to_bytes(8, "big"), self.queries[0].encode()
         return [b"", b"\0", b"\0\0\0\0", frame(2), query, query + query, frame(2)[:3],
                 frame(1, b"SELECT"), frame(1, b"\xff"), frame(7), frame(0x81), frame(3, b"\0\0"),
                 frame(3, b"\0\1"), frame(4, record + long_bytes(b"x")), frame(4, bytes(64)),
-                frame(5, at[0] + self.queries[0].encode()), frame(5, at[1] + b"SELECT * FROM t0"),
+                frame(5, at + text), frame(5, bytes([255] * 8) + text), frame(5, at + b"SELECT"),
+                frame(5, bytes(7) + b"c\xff"), frame(5), frame(5, at[1:]), frame(5, at),
+                frame(5, at + text.ljust(65_536)), frame(5, at + text.ljust(65_537)),
+                frame(5, at + text)[:-1], frame(5, at + text)[:9], frame(5, at + text) + query,
                 frame(2) + b"\0\0", (1 << 31).to_bytes(4, "big") + b"\1",
                 (2).to_bytes(4, "big") + b"\2x"]
 
     def serve(self):
         """`serve`, one connection after the other."""
-        world, port, lines = self.world, free_port(), []
-        store = Store.load(world.public, world.entries)
+        yield from self.served(self.world, len(self.world.entries), self.streams())
+
+    def versions(self):
+        """`serve` of a store that keeps the newest of its versions, as more are installed, and
+        of an empty one."""
+        world, texts = long_world(7, **({"levels": 2} if has("levels") else {"height": 10}))
+        all_asked = b"".join(asking(version, texts[0].encode()) for version in range(70))
+        yield from self.served(world, 67, [all_asked, installed_and_asked(world, 67, texts[1])])
+        text = self.queries[0]
+        streams = [asking(0, text.encode()), installed_and_asked(self.world, 0, text)]
+        yield from self.served(self.world, 0, streams)
+
+    def served(self, world, count, streams):
+        """What `serve` says to these bytes, so many entries in its journal."""
+        port, lines, entries = free_port(), [], world.entries[:count]
+        store = Store.load(world.public, entries)
         process = self.start(["serve", f"127.0.0.1:{port}", self.file(world.public_bytes),
-                              self.file(world.journal), str(len(self.streams()))])
-        for number, stream in enumerate(self.streams(), 1):
+                              self.file(journal_bytes(entries)), str(len(streams))])
+        for number, stream in enumerate(streams, 1):
             link = MemLink(stream)
             end = " ".join(map(str, serve_link(store, link)))
             lines.append(f"connection {number} {end}\n")
@@ -180,30 +219,37 @@ class Loopback:
     def ask(self):
         """`ask`, of stores that answer rightly and wrongly."""
         reply = self.world.reply(self.queries[0])
-        answers = [frame(0x81, reply), frame(0x81, reply[:-1]), frame(0x8F, b"\2"),
-                   frame(0x8F, b"\xee"), b"", b"\0\0", b"\0\0\0\0", frame(0x82, b"\0"),
+        second = self.world.store.answer_at(2, parse_query(self.queries[0]))
+        newest = str(self.world.store.version())
+        answers = [frame(0x81, reply), frame(0x81, second), frame(0x81, reply[:-1]),
+                   frame(0x8F, b"\2"), frame(0x8F, b"\7"), frame(0x8F, b"\xee"), b"", b"\0\0",
+                   b"\0\0\0\0", frame(0x82, b"\0"),
                    frame(0x81, reply)[:-1], frame(0x81), frame(0x8F, b"\1\1"),
                    frame(0x81, reply) + b"more"]
         for answer in answers:
-            for options in ([], ["--least", "99"], ["--at", "2"]):
+            for options in ([], ["--least", "99"], ["--at", "2"], ["--at", "2", "--least", "3"],
+                            ["--at", newest], ["--at", "0"]):
                 due, got = self.asked(answer, options)
                 yield f"ask {answer[:8].hex()} {options}", due, got
 
     def asked(self, answer, options):
-        """How an `ask` ends in memory, and how over TCP."""
+        """How an `ask` ends and what it sends, in memory and over TCP."""
+        came = []
+
         def handle(sock):
-            if SocketLink(sock).frame_ends():
+            came.append(SocketLink(sock).frame())
+            if came[0]:
                 sock.sendall(answer)
                 sock.shutdown(socket.SHUT_WR)
                 SocketLink(sock).rest()
         port, thread = listen_once(handle)
         key = self.file(self.world.public_bytes)
         words = ["ask", f"127.0.0.1:{port}", key, self.queries[0]] + options
-        sink, files = MemSink(), MemShelf({key: self.world.public_bytes})
-        status = run(["vo_cli"] + words, files, MemDisk(), MemNet([answer]), sink)
+        sink, files, net = MemSink(), MemShelf({key: self.world.public_bytes}), MemNet([answer])
+        status = run(["vo_cli"] + words, files, MemDisk(), net, sink)
         got = self.ended(words)
         end_listening(port, thread)
-        return (status, bytes(sink.written)), got
+        return (status, bytes(sink.written), b"".join(net.sent)), (*got, b"".join(came))
 
     # -- own
 
@@ -275,7 +321,7 @@ class Loopback:
         def handle(sock, answer=answerer()):
             sock.settimeout(LIMIT)
             link = SocketLink(sock)
-            while link.frame_ends() and (said := answer(b"")):
+            while link.frame() and (said := answer(b"")):
                 link.put(said)
                 if is_cut(said):        # nothing more comes behind it
                     sock.shutdown(socket.SHUT_WR)
