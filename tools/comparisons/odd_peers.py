@@ -187,6 +187,7 @@ def tried(folder):
         "connections that close at once": lambda: many_that_close(folder),
         "an answer before a bad frame": lambda: answer_before_a_bad_frame(folder),
         "ask, and a mirror that says nothing": lambda: silent_mirror(folder, "ask", "ADDR", "key", QUERY),
+        "ask --at, and a mirror that says nothing": lambda: silent_mirror(folder, "ask", "ADDR", "key", QUERY, "--at", "2"),
         "own, and a mirror that says nothing": lambda: silent_mirror(folder, "own", workspace.SEED, "ADDR", "../empty"),
     }
 
