@@ -110,14 +110,19 @@ def removal_blocks(root, key):
     return needed + (0 if gives_way else root.blocks(count))
 
 
-def command_blocks(command, root):
+def changed_row_blocks(kind, cells):
+    """A new row of so many cells, or one of which a cell is new."""
+    return row_blocks(cells) if kind == "insert" else 1 + blocks(2 + 32 * cells)
+
+
+def command_blocks(command, root, cells=1):
     """Those of a command with this proof: the row where it is new, the changed cell and the row, and the nodes."""
     kind, number = command
     key = key_of(number)
     if kind == "insert":
-        return row_blocks(1) + insertion_blocks(root, key)
+        return changed_row_blocks(kind, cells) + insertion_blocks(root, key)
     if kind == "update":
-        return row_blocks(1) + path_blocks(root, key)
+        return changed_row_blocks(kind, cells) + path_blocks(root, key)
     return removal_blocks(root, key)
 
 
@@ -127,12 +132,12 @@ def open_blocks(node):
     return below + node.blocks(node.count)
 
 
-def followed_blocks(commands, entry):
+def followed_blocks(commands, entry, cells=1):
     """Those of the proofs' nodes, and the rows that are open there, before and after each command."""
     needed = 0
     for command, root in zip(commands, proofs_of(entry)):
-        opened = blocks(2 + 32) if command[0] == "update" else 0
-        needed += open_blocks(root) + opened + command_blocks(command, root)
+        opened = blocks(2 + 32 * cells) if command[0] == "update" else 0
+        needed += open_blocks(root) + opened + command_blocks(command, root, cells)
     return needed
 
 

@@ -36,11 +36,20 @@ def serving(journal, count, before=()):
         store.kill()
 
 
-def asked_at_once(address, queries):
-    """Asks a store these queries over one connection, each once the answer before it has come."""
+def frame(kind, body=b""):
+    return (len(body) + 1).to_bytes(4, "big") + bytes([kind]) + body
+
+
+def exchanged(address, requests):
+    """The answers to these frames over one connection, each sent once the answer before it has come."""
     host, port = address.split(":")
     with socket.create_connection((host, int(port))) as peer, peer.makefile("rb") as answers:
-        for query in queries:
-            text = query.encode()
-            peer.sendall((len(text) + 1).to_bytes(4, "big") + b"\1" + text)
-            answers.read(int.from_bytes(answers.read(4), "big"))
+        for request in requests:
+            peer.sendall(request)
+            yield answers.read(int.from_bytes(answers.read(4), "big"))
+
+
+def asked_at_once(address, queries):
+    """Asks a store these queries over one connection, each once the answer before it has come."""
+    for _ in exchanged(address, (frame(1, query.encode()) for query in queries)):
+        pass
