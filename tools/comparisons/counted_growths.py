@@ -1,13 +1,12 @@
 """Requests for memory by their numbers: runs that have one refused, and how many a store's versions take; for tools/refused_growths."""
 import os
-import socket
 import subprocess
 
 from comparisons import workspace
 from comparisons.workspace import SEED, TOP
 from reference.formats import batch_bytes, read_entries
 from reference.generators.folders import write_files
-from reference.generators.loopback import SocketLink
+from reference.generators.loopback import Loopback
 from reference.wire import frame, install_frame
 
 PROGRAM = workspace.program("vo_cli")
@@ -71,10 +70,15 @@ def script(changes):
     return "\n".join(batches)
 
 
+def made(folder, *words):
+    """What a command writes, under a key of height 10."""
+    return subprocess.run([PROGRAM, *words, "--height", "10"], cwd=folder, stdout=subprocess.PIPE, check=True).stdout
+
+
 def sealed(folder, changes):
-    """The journal of such a script, under a key of height 10."""
+    """The journal of such a script."""
     write_files(folder, {"filling": script(changes).encode()})
-    return subprocess.run([PROGRAM, "seal", SEED, "filling", "--height", "10"], cwd=folder, stdout=subprocess.PIPE, check=True).stdout
+    return made(folder, "seal", SEED, "filling")
 
 
 def requests_of(entries):
@@ -89,28 +93,15 @@ def is_met_by_store(folder, journal, sent, number):
     with subprocess.Popen(words, cwd=folder, env=environment, stdout=subprocess.DEVNULL, stderr=subprocess.PIPE) as store:
         listening = store.stderr.readline().decode().split(",")[0].split()
         if listening:
-            host, port = listening[-1].split(":")
-            with socket.create_connection((host, int(port))) as peer:
-                exchange(peer, sent)
+            Loopback.exchanged(int(listening[-1].split(":")[1]), sent)
         store.communicate()
     return not os.path.exists(mark)
-
-
-def exchange(peer, sent):
-    """Sends all of it, and takes what comes until nothing more does."""
-    try:
-        peer.sendall(sent)
-        peer.shutdown(socket.SHUT_WR)
-    except OSError:
-        pass
-    SocketLink(peer).rest()
 
 
 def compare_versions(report, folder):
     """A store that is filled, and one that is filled likewise and takes a batch of one UPDATE 64 times: how many more requests it makes."""
     journals = {"filled": sealed(folder, 0), "changed": sealed(folder, CHANGES)}
-    key = subprocess.run([PROGRAM, "keygen", SEED, "--height", "10"], stdout=subprocess.PIPE, check=True).stdout
-    write_files(folder, {**journals, "filled_key": key})
+    write_files(folder, {**journals, "filled_key": made(folder, "keygen", SEED)})
     entries = read_entries(journals["changed"])
     filled = len(entries) - 1 - CHANGES  # the last version of the first journal, which is the first one that the second store drops
     counts = [last_request(folder, ["answer", "filled_key", name, QUERY, "--at", str(version)])
