@@ -27,6 +27,7 @@ use Rattle.vo_spec.specs.Conditions.{FitsOperand, FitsQuery, Query, comparisons}
 use Rattle.vo_spec.specs.Results.{result}
 use Rattle.vo_spec.specs.Tables.{tables_after}
 use Rattle.vo_spec.specs.Values.{FitsValue, IsInRange}
+use Rattle.batch_format.proofs.ReaderLaws.{some_is}
 use Rattle.sql_text.specs.Limits.{max_sql_bytes}
 use Rattle.sql_text.specs.Printable.{PrintableOperand, PrintableSides}
 use Rattle.sql_text.proofs.Made.{all_mapped}
@@ -52,7 +53,7 @@ use Rattle.vo_store.specs.StoreState.{StoreState, oldest_of}
 use Rattle.vo_wire.specs.Answering.{KindAndBody, answer_by, code_of, query_answer, query_at_answer, reply_answer, reply_to}
 use Rattle.vo_wire.proofs.AnswerLaws.{reply_within}
 use Rattle.vo_commands.specs.Expected.{Allows, Checks, Expected, OfQuery, ask_expected, question_frame, with_answer, with_key, with_reply}
-use Rattle.vo_commands.specs.Lines.{asked_output, check_output, store_refusal}
+use Rattle.vo_commands.specs.Lines.{answer_output, asked_output, check_output, store_refusal}
 use Rattle.vo_commands.specs.Texts.{IsQueryText}
 use Rattle.vo_commands.proofs.QueryTexts.{has_byte}
 use Rattle.honest_peers.specs.Asking.{IsAsked, batches_asked, question, version_asked}
@@ -308,7 +309,7 @@ same_number n m is = grind (arith, nat_tests)
 -- of the version that is asked for just the answer is printed
 printed : (at : Option ℕ) (batches : List (List Command)) (answer : Accepted)
     → answer.version ≡ version_asked at batches
-    → asked_output at (Ok answer) ≡ check_output (Ok answer)
+    → asked_output at answer ≡ answer_output answer
 printed None batches answer is = refl
 printed (Some version) batches answer is = rw (same_number answer.version version is) refl
 
@@ -361,24 +362,25 @@ module _ (s : StoreState) (key text : List ℕ) (at : Option ℕ) (least : ℕ) 
 
   accepted : (bytes : List ℕ) (answer : Accepted) → answer_by s at q ≡ Ok bytes
       → CheckOf s.key least q bytes (Ok answer) → Allows expected_output output ↔
-      (output ≡ asked_output at (Ok answer))
+      (output ≡ asked_output at answer)
   accepted bytes answer e check =
       let fits : IsTrue (is_length kind.Reply (length bytes)) = le-leb (length bytes) max_reply
       (reply_within s at q bytes e) in
       let is = came kind.Reply bytes (ap reply_answer e) refl fits in
-      let after : Allows (by_reply (coming ∷ queue)) output ↔ (output ≡ asked_output at (Ok answer)) =
-      subst (λ (x : Expected). Allows x output ↔ (output ≡ asked_output at (Ok answer))) (sym is)
-      (to, λ h. (Ok answer, check, h)) in
+      let after : Allows (by_reply (coming ∷ queue)) output ↔ (output ≡ asked_output at answer) =
+      subst (λ (x : Expected). Allows x output ↔ (output ≡ asked_output at answer)) (sym is)
+      (to, λ h. (Ok answer, check, ap Some (sym h))) in
       (λ h. after.0 (goes.0 h), λ h. goes.1 (after.1 h))
     where
-      to : Allows (Checks s.key at least q bytes) output → output ≡ asked_output at (Ok answer)
-      to told = told.2
-          ∙ ap (asked_output at) (one_check s.key least q bytes told.0 (Ok answer) told.1 check)
+      to : Allows (Checks s.key at least q bytes) output → output ≡ asked_output at answer
+      to told = some_is output (asked_output at answer)
+          (sym told.2
+          ∙ ap (check_output at) (one_check s.key least q bytes told.0 (Ok answer) told.1 check))
 
   pub answered : NewestAccepted → KeptAccepted → (batches : List (List Command)) (bytes : List ℕ)
       → IsHonestAfter batches s → least ≤ version_asked at batches → answer_by s at q ≡ Ok bytes
       → Allows expected_output output ↔
-      (output ≡ check_output (Ok (plain_answer (batches_asked at batches) q)))
+      (output ≡ answer_output (plain_answer (batches_asked at batches) q))
   answered newest kept batches bytes honest recent e =
       let answer : Accepted = plain_answer (batches_asked at batches) q in
       let fits : FitsQuery q = query_numbers text q asked.is_text asked.is_query in
@@ -407,7 +409,7 @@ pub answered_at : NewestAccepted → KeptAccepted → AreThere → (batches : Li
     → IsAsked key text (Some version) files s q coming
     → oldest_of installed.rec.version ≤ version → version ≤ installed.rec.version → least ≤ version
     → Allows (ask_expected key text (Some version) least files (Some (coming ∷ queue))) output
-    → (output ≡ check_output (Ok (plain_answer (take version batches) q)))
+    → (output ≡ answer_output (plain_answer (take version batches) q))
     ⊎ (output ≡ store_refusal 3)
 answered_at newest kept there batches s installed key text version least files q coming queue output
     honest is asked old new recent allows =
@@ -420,7 +422,7 @@ answered_at newest kept there batches s installed key text version least files q
 
     by_answer : ((reply : List ℕ) × (answer_at_of s version q ≡ Ok reply))
         ⊎ ((size : ℕ) × (answer_at_of s version q ≡ Err (fault.TooLarge size)))
-        → (output ≡ check_output (Ok (plain_answer (take version batches) q)))
+        → (output ≡ answer_output (plain_answer (take version batches) q))
         ⊎ (output ≡ store_refusal 3)
     by_answer (inl found) = inl
         ((answered s key text (Some version) least files q coming queue output asked newest kept

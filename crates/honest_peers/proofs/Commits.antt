@@ -1,6 +1,7 @@
 -- Batches that an owner commits to an honest store that stands where it does.
 use Rattle.std.proofs.Common.{◌≡◌, ℕ, ◌+◌, ◌<◌, ◌≤◌, List, [], ◌∷◌, ◌++◌, drop, length, Result, Ok, Err, append-nil, append_assoc, refl, sym, ap, ◌∙◌, subst, inl, inr, arith}
 use Rattle.std.specs.Prelude.{IsOk, IsSome}
+use Rattle.batch_format.proofs.ReaderLaws.{some_is}
 use Rattle.std.proofs.lemmas.List.{drop-map, length-append, map-append}
 use Rattle.outside.specs.Outputs.{Output}
 use Rattle.vo_spec.specs.declared.records.Entry.{Entry}
@@ -294,12 +295,13 @@ module _ (secret : Secret) (laws : StoreLaws) (later : StoreState) (ending : End
             | inl spent ↦ refuses batches held es batch new proofs p.pending judgement rest go
                 spent_key spent.1 own at_pending (spent_comes spent.0) runs
             | inr on ↦
+                let made_is : Makes entry behind_batch ≡ judgement = some_is _ _ on.1 in
                 subst (λ (j : Judgement Held Entry). Q
                 (Steps held batch proofs j ∷ others
-                (with_judgement entry_forms j rest go).events)) (sym on.1)
+                (with_judgement entry_forms j rest go).events)) made_is
                 (makes rest (left_is on.0) is_later
                 (subst (λ (j : Judgement Held Entry). Runs p.pending rest.coming later ending
-                (with_judgement entry_forms j rest go)) on.1 runs))
+                (with_judgement entry_forms j rest go)) (sym made_is) runs))
           ]
 
     -- where it refuses it
@@ -322,7 +324,7 @@ module _ (secret : Secret) (laws : StoreLaws) (later : StoreState) (ending : End
                 spent.1 own at (spent_comes spent.0) runs
             | inr on ↦
                 refuses batches held es batch new proofs s judgement rest go
-                (command_output f.index f.why) on.1 own at
+                (command_output f.index f.why) (sym (some_is _ _ on.1)) own at
                 (λ same. inr
                 (inl (
                   left_is on.0,

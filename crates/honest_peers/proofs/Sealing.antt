@@ -1,6 +1,7 @@
 -- The entry that an owner makes of a batch by an honest store's proofs is the sealed one.
 use Rattle.std.proofs.Common.{◌≡◌, ℕ, ◌+◌, ◌<◌, ◌≤◌, List, [], ◌∷◌, ◌++◌, length, Result, Err, append-nil, append_assoc, refl, sym, ap, ◌∙◌, subst, inl, inr, arith}
-use Rattle.std.specs.Prelude.{◌⊎◌, IsOk}
+use Rattle.std.specs.Prelude.{◌⊎◌, IsOk, Some}
+use Rattle.batch_format.proofs.ReaderLaws.{some_is}
 use Rattle.std.specs.Result.{result_map_both}
 use Rattle.std.specs.List.{AllByRecursion}
 use Rattle.std.proofs.lemmas.List.{length-append}
@@ -145,8 +146,9 @@ module _ (held : Held) (batch : Batch) (proofs : List ℕ) (judgement : Judgemen
       → IsJudgement held batch proofs judgement
       → IsSpent
       ⊎ ((held.roots.version + 1 < leaves)
-      × (judgement ≡ judgement_of held
-      (result_map_both (step_to held.key batch.commands proofs) (λ why. why) next)))
+      × (judgement_of held
+      (result_map_both (step_to held.key batch.commands proofs) (λ why. why) next)
+      ≡ Some judgement))
   unfolding StepOf
   judged next is made = step made.1
     where
@@ -156,16 +158,22 @@ module _ (held : Held) (batch : Batch) (proofs : List ℕ) (judgement : Judgemen
           × (made.0 ≡ result_map_both (step_to held.key batch.commands proofs) (λ why. why) other))
           → IsSpent
           ⊎ ((held.roots.version + 1 < leaves)
-          × (judgement ≡ judgement_of held
-          (result_map_both (step_to held.key batch.commands proofs) (λ why. why) next)))
-      step (inl spent) = inl (spent.0, made.2 ∙ ap (judgement_of held) spent.1)
+          × (judgement_of held
+          (result_map_both (step_to held.key batch.commands proofs) (λ why. why) next)
+          ≡ Some judgement))
+      step (inl spent) = inl (
+        spent.0,
+        some_is judgement (Refuses CommandCause spent_key.bytes)
+            (sym made.2 ∙ ap (judgement_of held) spent.1),
+      )
       step (inr on) =
           let same : on.1 ≡ next = one_answer held.roots batch.commands proofs on.1 next on.2 is in
           inr (
             on.0,
-            made.2 ∙ ap (judgement_of held)
-                (on.3 ∙ ap (λ (r : Result Roots OwnerFault). result_map_both
-                (step_to held.key batch.commands proofs) (λ why. why) r) same),
+            ap (judgement_of held)
+                (sym (on.3 ∙ ap (λ (r : Result Roots OwnerFault). result_map_both
+                (step_to held.key batch.commands proofs) (λ why. why) r) same))
+                ∙ made.2,
           )
 
 -- proofs by which an owner refuses a batch are not too long

@@ -19,7 +19,7 @@ ghost use Rattle.vo_store.specs.declared.signed_record.SignedRecord.{SignedRecor
 ghost use Rattle.vo_store.specs.StoreState.{StoreState, oldest_of};
 ghost use Rattle.vo_wire.specs.Answering.{answer_by};
 ghost use Rattle.vo_commands.specs.Expected.{Allows, ask_expected};
-ghost use Rattle.vo_commands.specs.Lines.{check_output, store_refusal};
+ghost use Rattle.vo_commands.specs.Lines.{answer_output, store_refusal};
 ghost use Rattle.honest_peers.specs.Asking.{IsAsked, batches_asked, version_asked};
 
 use vo_store::laws::answers_are_accepted;
@@ -48,7 +48,7 @@ pub fn questions_are_answered()
         → IsAsked key text at files s q coming → least ≤ version_asked at batches
         → answer_by s at q ≡ Ok bytes
         → Allows (ask_expected key text at least files (Some (coming ∷ queue))) output
-        ↔ (output ≡ check_output (Ok (plain_answer (batches_asked at batches) q))) }
+        ↔ (output ≡ answer_output (plain_answer (batches_asked at batches) q)) }
     ensures kept { (batches : List (List Command)) (s : StoreState) (installed : SignedRecord)
         (key text : List ℕ) (version least : ℕ) (files : Files) (q : Query) (coming : List ℕ)
         (queue : List (List ℕ)) (output : Output) → IsHonestAfter batches s
@@ -56,7 +56,7 @@ pub fn questions_are_answered()
         → oldest_of installed.rec.version ≤ version → version ≤ installed.rec.version
         → least ≤ version
         → Allows (ask_expected key text (Some version) least files (Some (coming ∷ queue))) output
-        → (output ≡ check_output (Ok (plain_answer (take version batches) q)))
+        → (output ≡ answer_output (plain_answer (take version batches) q))
         ⊎ (output ≡ store_refusal 3) }
     ensures too_large { (s : StoreState) (key text : List ℕ) (at : Option ℕ) (least size : ℕ)
         (files : Files) (q : Query) (coming : List ℕ) (queue : List (List ℕ)) (output : Output)

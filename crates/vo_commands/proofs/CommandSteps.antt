@@ -1,19 +1,29 @@
 -- Commands over files and texts, step by step.
-use Rattle.std.proofs.Common.{◌≡◌, ℕ, List, Option, Some, None, Result, Ok, Err, refl, sym, subst, ◌∙◌}
+use Rattle.std.proofs.Common.{◌≡◌, ◌⊎◌, ℕ, List, Option, Some, None, Result, Ok, Err, refl, sym, ap, subst, ◌∙◌}
 use mathlib.Core.Logic.{inl, inr}
 use Rattle.std.specs.Prelude.{IfSome}
+use Rattle.outside.specs.Outputs.{Output}
 use Rattle.outside.specs.Shelf.{Files}
 use Rattle.vo_spec.specs.Conditions.{Query}
 use Rattle.sql_text.specs.Scripts.{IsScript}
+use Rattle.vo_spec.specs.declared.checks.Answer.{Answer}
+use Rattle.vo_spec.specs.declared.checks.CheckFault.{CheckFault}
+use Rattle.vo_spec.specs.declared.checks.CheckFault.TheVariants.{Memory as NoMemoryToCheck}
+use Rattle.reply_meeting.specs.declared.meeting.MeetFault.{MeetFault}
+use Rattle.reply_meeting.specs.declared.meeting.MeetFault.TheVariants.{Memory as NoMemory}
+use Rattle.reply_meeting.specs.declared.meeting.MetReplies.{MetReplies}
+use Rattle.reply_meeting.specs.Meetings.{RepliesMeet}
+use Rattle.reply_meeting.specs.Views.{met_of}
 use Rattle.vo_words.specs.Shapes.{PlainShape}
 use Rattle.vo_commands.specs.declared.report.Report.{Report}
 use Rattle.vo_commands.specs.declared.report.Stop.{Stop}
 use Rattle.vo_commands.specs.declared.report.Stop.TheVariants.{Refused, Outside, Memory}
+use Rattle.vo_commands.specs.Lines.{check_output, meet_output}
 use Rattle.vo_commands.specs.Reports.{Answers, GoesOn, ReadsText}
 use Rattle.vo_spec.specs.declared.tables.Batch.{Batch}
 use Rattle.vo_spec.specs.Secret.{Secret}
 use Rattle.vo_commands.specs.Texts.{IsQueryText, IsRefusedScript}
-use Rattle.vo_commands.specs.Expected.{Expected, Exactly, OfQuery, OfScript, with_text, with_seed, seal_output, script_expected, seal_expected, script_limit, Replies, with_key, with_file, answer_expected, reply_limit, journal_limit}
+use Rattle.vo_commands.specs.Expected.{Allows, Expected, Meets, OfQuery, OfScript, Seals, with_text, with_seed, script_expected, seal_expected, script_limit, Replies, with_key, with_file, answer_expected, reply_limit, journal_limit}
 
 -- what was taken of a file answers for the file
 pub of_file : {B : Type 0} (expected : (B → Expected) → Expected) (b : B) (rest : B → Expected) (r : Result Report Stop) → ((rest : B → Expected) → expected rest ≡ rest b) → Answers (rest b) r → Answers (expected rest) r
@@ -117,19 +127,19 @@ abbrev TextIs : List ℕ → List ℕ → Type 0
 TextIs bytes text = (rest : List ℕ → Expected) → with_text rest bytes ≡ rest text
 
 pub script_known : (secret : Secret) (bytes text : List ℕ) (batches : List Batch) (r : Result Report Stop) → TextIs bytes text → IsScript text batches
-    → Answers (Exactly (seal_output secret batches)) r → Answers (script_expected secret bytes) r
+    → Answers (Seals secret batches) r → Answers (script_expected secret bytes) r
 script_known secret bytes text batches r goes is a =
-    of_file (λ rest. with_text rest bytes) text (λ t. OfScript t (λ b. Exactly (seal_output secret b))) r goes
-    (of_script text batches (λ b. Exactly (seal_output secret b)) r is a)
+    of_file (λ rest. with_text rest bytes) text (λ t. OfScript t (Seals secret)) r goes
+    (of_script text batches (Seals secret) r is a)
 
 pub script_stops : {A : Type 0} (view : A → List Batch) (secret : Secret) (bytes text : List ℕ) (stop : Stop) → TextIs bytes text → ReadsText view (IsScript text) (IsRefusedScript text) (Err stop)
     → Answers (script_expected secret bytes) (Err stop)
 script_stops view secret bytes text stop goes reads =
-    of_file (λ rest. with_text rest bytes) text (λ t. OfScript t (λ b. Exactly (seal_output secret b))) (Err stop) goes
-    (of_no_script view text stop (λ b. Exactly (seal_output secret b)) reads)
+    of_file (λ rest. with_text rest bytes) text (λ t. OfScript t (Seals secret)) (Err stop) goes
+    (of_no_script view text stop (Seals secret) reads)
 
 pub text_stops : {A : Type 0} (view : A → List ℕ) (secret : Secret) (bytes : List ℕ) (stop : Stop) → GoesOn view (λ rest. with_text rest bytes) (Err stop) → Answers (script_expected secret bytes) (Err stop)
-text_stops view secret bytes stop goes = of_stop view (λ rest. with_text rest bytes) stop (λ t. OfScript t (λ b. Exactly (seal_output secret b))) goes
+text_stops view secret bytes stop goes = of_stop view (λ rest. with_text rest bytes) stop (λ t. OfScript t (Seals secret)) goes
 
 abbrev SeedIs : List ℕ → PlainShape → Secret → Files → Type 0
 SeedIs name shape secret known = (rest : Secret → Expected) → with_seed known name shape rest ≡ rest secret
@@ -143,3 +153,18 @@ seal_known name script shape secret bytes o p r same k f a = step o k (subst (λ
     step (Some known) k f =
         of_file (with_seed known name shape) secret (λ s. with_file known script script_limit (script_expected s)) r k
         (of_file (with_file known script script_limit) bytes (script_expected secret) r f a)
+
+-- want of memory is no answer
+pub no_answer : (at : Option ℕ) (answer : Result Answer CheckFault) (output : Output) → answer ≡ Err NoMemoryToCheck → check_output at answer ≡ Some output → ⊥
+no_answer at answer output e is = let silent : check_output at answer ≡ None = ap (check_output at) e in absurd (cc)
+
+-- Two replies of which one is refused.
+pub meet_refused : (met : Result MetReplies MeetFault) (why : MeetFault) (r : Result Report Stop) (key : List ℕ) (q : Query) (first second : List ℕ) → met ≡ Err why
+    → ((expected : Expected) → ((output : Output) → meet_output (Err why) ≡ Some output → Allows expected output) → Answers expected r)
+    → (met ≡ Err NoMemory) ⊎ RepliesMeet key q first second (met_of met) → Answers (Meets key q first second) r
+meet_refused met why r key q first second is refuses told = refuses (Meets key q first second) (λ output e. allowed output e told)
+  where
+    allowed : (output : Output) → meet_output (Err why) ≡ Some output → (met ≡ Err NoMemory) ⊎ RepliesMeet key q first second (met_of met) → Allows (Meets key q first second) output
+    allowed output e (inl none) =
+        let silent : meet_output (Err why) ≡ None = ap (λ (m : Result MetReplies MeetFault). meet_output (met_of m)) (sym is ∙ none) in absurd (cc)
+    allowed output e (inr meet) = (Err why, subst (λ (m : Result MetReplies MeetFault). RepliesMeet key q first second (met_of m)) is meet, e)

@@ -5,13 +5,11 @@ use Rattle.std.specs.Str.{bytes_eq, is_utf8}
 use Rattle.outside.specs.Outputs.{Output, outside_failure}
 use Rattle.outside.specs.Shelf.{Files}
 use Rattle.vo_spec.specs.Secret.{Secret, public_of_secret}
-use Rattle.owner_state.specs.declared.sealing.SealFault.{SealFault}
-use Rattle.owner_state.specs.declared.sealing.SealFault.TheVariants as seal
 use Rattle.vo_words.specs.Shapes.{PlainShape}
 use Rattle.vo_words.specs.PlainRequest.{PlainRequest, Keygen, Seal, Own, Answer, Serve, Check, Ask, Audit, Explain, Meet, Generate}
 use Rattle.vo_spec.specs.Keys.{is_public_key}
 use Rattle.vo_commands.specs.Lines.{gen_output, input_refusal, success}
-use Rattle.vo_commands.specs.Expected.{Expected, Anything, Exactly, Explains, OfScript, HoldsEach, file_words, files_of_request, files_expected, with_same_key, sealed_output, script_expected, script_limit, seal_output, seed_limit, secret_in, with_contents, with_file, with_public, with_secret, words_expected}
+use Rattle.vo_commands.specs.Expected.{Expected, Anything, Exactly, Explains, OfScript, Seals, HoldsEach, file_words, files_of_request, files_expected, with_same_key, script_expected, script_limit, seed_limit, secret_in, with_contents, with_file, with_public, with_secret, words_expected}
 use Rattle.vo_commands.specs.Taking.{LacksFile}
 
 -- it isn't what is written of a fault of the outside
@@ -44,17 +42,11 @@ secret : (shape : PlainShape) (rest : Secret → Expected) → ((key : Secret) �
 secret shape rest none bytes lacks =
     tested (length bytes == seed_limit) (codes "seed file" ∷ decimal (length bytes) ∷ []) (rest (secret_in bytes shape)) (none (secret_in bytes shape)) lacks
 
-sealed : (o : Option SealFault) (journal : List ℕ) → sealed_output o journal ≡ outside_failure → ⊥
-sealed None journal e = other_status (sealed_output None journal) (λ s. absurd (omega (arith, s))) e
-sealed (Some seal.KeySpent) journal e = other_status (sealed_output (Some seal.KeySpent) journal) (λ s. absurd (omega (arith, s))) e
-sealed (Some (seal.Command index fault)) journal e = other_status (sealed_output (Some (seal.Command index fault)) journal) (λ s. absurd (omega (arith, s))) e
-sealed (Some seal.Memory) journal e = other_status (sealed_output (Some seal.Memory) journal) (λ s. absurd (omega (arith, s))) e
-
 script : (key : Secret) (bytes : List ℕ) → LacksFile (script_expected key bytes) → ⊥
 script key bytes lacks = step (is_utf8 bytes) lacks
   where
-    step : (b : Bool) → LacksFile (if b then OfScript bytes (λ batches. Exactly (seal_output key batches)) else Exactly (input_refusal (codes "not text" ∷ []))) → ⊥
-    step true lacks = sealed _ _ lacks.2
+    step : (b : Bool) → LacksFile (if b then OfScript bytes (Seals key) else Exactly (input_refusal (codes "not text" ∷ []))) → ⊥
+    step true lacks = lacks.2
     step false lacks = refused (codes "not text" ∷ []) lacks
 
 request_lacks_none : (request : PlainRequest) (known : Files) → HoldsEach known (files_of_request request) → LacksFile (files_expected request known) → ⊥

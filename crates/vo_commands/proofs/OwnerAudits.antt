@@ -1,8 +1,9 @@
 -- What is known of a record that an auditor finds unsigned: it is validly signed, and the journal
 -- lacks it.
-use Rattle.std.proofs.Common.{◌≡◌, ℕ, zero, suc, ◌<◌, List, [], ◌∷◌, ◌++◌, length, Some, Result, Ok, Err, option_map, slice_get, refl, sym, ap, subst, ◌∙◌, arith, ◌⊎◌, inl, inr}
+use Rattle.std.proofs.Common.{◌≡◌, ℕ, zero, suc, ◌<◌, List, [], ◌∷◌, ◌++◌, length, Some, None, Result, Ok, Err, option_map, slice_get, refl, sym, ap, subst, ◌∙◌, arith, ◌⊎◌, inl, inr}
 use Rattle.std.specs.Prelude.{Contains, IfOk, slice_index_or}
 use Rattle.std.specs.declared.alloc.AllocError.{AllocError}
+use Rattle.outside.specs.Outputs.{Output}
 use Rattle.vo_spec.specs.declared.records.Entry.{Entry}
 use Rattle.vo_spec.specs.declared.records.Record.{Record}
 use Rattle.vo_spec.specs.declared.checks.AuditFault.{AuditFault}
@@ -74,6 +75,10 @@ told_forged secret journal rec signature last signed found (Err e) lacked are ex
 told_forged secret journal rec signature last signed found (Ok report) lacked are explains says =
     (lacked.0, lacked.1, found, subst (λ records. Explained (forgery_of secret records rec signature) found) (are lacked.0 lacked.1) explains, says)
 
+-- want of memory is no verdict
+pub no_output : (v : Result Verdict AuditFault) (output : Output) → v ≡ Err Memory → audit_output v ≡ Some output → ⊥
+no_output v output e is = let none : audit_output v ≡ None = ap audit_output e in absurd (cc)
+
 -- what is known by a call's own answer
 module _ (public : List ℕ) (secret : Secret) (journal : List ℕ) (q : Query) (bytes : List ℕ) (v : Result Verdict AuditFault) (same : public ≡ public_of_secret secret)
     (told : (v ≡ Err Memory) ⊎ OwnedAuditOf public journal q bytes v) where
@@ -97,9 +102,9 @@ module _ (public : List ℕ) (secret : Secret) (journal : List ℕ) (q : Query) 
   own_told rec signature last report is says = (Ok (Unsigned rec signature last), own (Unsigned rec signature last) is, says)
 
   -- whatever else an audit says it says to anybody
-  pub as_to_anybody : (r : Result Report Stop) → IsToldToOwner secret journal v (audit_output v)
-      → ((expected : Expected) → (v ≡ Err Memory) ⊎ Allows expected (audit_output v) → Answers expected r) → Answers (Explains secret journal q bytes) r
-  as_to_anybody r says report = elim told [
-    | inl e ↦ report (Explains secret journal q bytes) (inl e)
-    | inr t ↦ report (Explains secret journal q bytes) (inr (v, subst (λ k. OwnedAuditOf k journal q bytes v) same t, says))
-  ]
+  pub as_to_anybody : (r : Result Report Stop) → ((output : Output) → audit_output v ≡ Some output → IsToldToOwner secret journal v output)
+      → ((expected : Expected) → ((output : Output) → audit_output v ≡ Some output → Allows expected output) → Answers expected r) → Answers (Explains secret journal q bytes) r
+  as_to_anybody r says report = report (Explains secret journal q bytes) (λ output is. elim told [
+    | inl e ↦ absurd (no_output v output e is)
+    | inr t ↦ (v, subst (λ k. OwnedAuditOf k journal q bytes v) same t, says output is)
+  ])

@@ -1,5 +1,5 @@
 -- What a fault of a text says of it.
-use Rattle.std.proofs.Common.{◌≡◌, Bool, true, false, List, [], ◌∷◌, Err, refl, sym, subst}
+use Rattle.std.proofs.Common.{◌≡◌, List, [], ◌∷◌, Some, Err}
 use Rattle.outside.specs.Outputs.{Output}
 use Rattle.vo_spec.specs.declared.tables.Batch.{Batch}
 use Rattle.sql_text.specs.declared.faults.SqlFault.{SqlFault}
@@ -10,34 +10,26 @@ use Rattle.owner_state.specs.Sealing.{FitEach}
 use Rattle.vo_commands.specs.declared.report.Stop.{Stop}
 use Rattle.vo_commands.specs.declared.report.Stop.TheVariants.{Refused, Outside, Memory}
 use Rattle.vo_commands.specs.Lines.{sql_output}
-use Rattle.vo_commands.specs.Reports.{ReadsText, Prints, StopsWith}
-use Rattle.vo_commands.specs.Texts.{is_want_of_memory}
+use Rattle.vo_commands.specs.Reports.{ReadsText, StopsWith, output_of}
 
 -- it would have been accepted
-pub not_accepted : {A B : Type 0} (view : B → A) (f : SqlFault) (v : A) → is_want_of_memory f ≡ false → Accepts view (Err f) v → ⊥
-not_accepted view fault.TooLong v e accepts = accepts
-not_accepted view (fault.Token at) v e accepts = accepts
-not_accepted view (fault.Syntax at) v e accepts = accepts
-not_accepted view (fault.Literal at) v e accepts = accepts
-not_accepted view fault.Nesting v e accepts = accepts
-not_accepted view fault.Name v e accepts = accepts
-not_accepted view fault.TooMany v e accepts = accepts
-not_accepted view fault.Memory v e accepts = absurd (cc)
+pub not_accepted : {A B : Type 0} (view : B → A) (f : SqlFault) (output : Output) (v : A) → sql_output f ≡ Some output → Accepts view (Err f) v → ⊥
+not_accepted view fault.TooLong output v e accepts = accepts
+not_accepted view (fault.Token at) output v e accepts = accepts
+not_accepted view (fault.Syntax at) output v e accepts = accepts
+not_accepted view (fault.Literal at) output v e accepts = accepts
+not_accepted view fault.Nesting output v e accepts = accepts
+not_accepted view fault.Name output v e accepts = accepts
+not_accepted view fault.TooMany output v e accepts = accepts
+not_accepted view fault.Memory output v e accepts = absurd (cc)
 
 module _ {A B : Type 0} (view : B → A) (Is : A → Type 0) (IsRefused : Output → Type 0) where
-  refused_stop : (output : Output) (stop : Stop) → ((a : A) → Is a → ⊥) → IsRefused output → Prints output stop → ReadsText view Is IsRefused (Err stop)
-  refused_stop output (Refused report) nothing is s = (nothing, subst IsRefused (sym s) is)
-  refused_stop output Outside nothing is s = absurd s
-  refused_stop output Memory nothing is s = absurd s
-
   -- no text is read where there is a fault that is no want of memory
-  pub not_read : (f : SqlFault) (stop : Stop) → (is_want_of_memory f ≡ false → (a : A) → Is a → ⊥) → (is_want_of_memory f ≡ false → IsRefused (sql_output f))
-      → StopsWith (is_want_of_memory f) (sql_output f) stop → ReadsText view Is IsRefused (Err stop)
-  not_read f stop nothing is stops = step (is_want_of_memory f) refl stops
-    where
-      step : (b : Bool) → is_want_of_memory f ≡ b → StopsWith b (sql_output f) stop → ReadsText view Is IsRefused (Err stop)
-      step true e s = subst (λ z. ReadsText view Is IsRefused (Err z)) (sym s) tt
-      step false e s = refused_stop (sql_output f) stop (nothing e) (is e) s
+  pub not_read : (f : SqlFault) (stop : Stop) → ((output : Output) → sql_output f ≡ Some output → (a : A) → Is a → ⊥)
+      → ((output : Output) → sql_output f ≡ Some output → IsRefused output) → StopsWith (sql_output f) stop → ReadsText view Is IsRefused (Err stop)
+  not_read f (Refused report) nothing is stops = (nothing (output_of report) stops, is (output_of report) stops)
+  not_read f Outside nothing is stops = absurd stops
+  not_read f Memory nothing is stops = tt
 
 pub each_fits : (batches : List Batch) → AllFit batches → FitEach batches
 each_fits [] fit = tt

@@ -1,5 +1,5 @@
 -- The owner of a key with its journal, as a session with a store goes by it.
-use Rattle.std.specs.Prelude.{◌≡◌, ◌≢◌, ℕ, ◌+◌, if◌then◌else◌, ◌<◌, false, List, Option, Some, None, Result, Ok, Err, IfSome, slice_get}
+use Rattle.std.specs.Prelude.{◌≡◌, ℕ, ◌+◌, if◌then◌else◌, ◌<◌, false, List, [], ◌∷◌, codes, Option, Some, None, option_map, Result, Ok, Err, IfSome, slice_get}
 use Rattle.std.specs.List.{AllByRecursion}
 use Rattle.outside.specs.DiskModel.{DiskModel, MayLeave}
 use Rattle.vo_spec.specs.declared.tables.Batch.{Batch}
@@ -27,7 +27,9 @@ use Rattle.owner_session.specs.declared.refusals.NoStep.TheVariants.{Refused, Me
 use Rattle.owner_session.specs.Work.{Forms, Judgement, Makes, Refuses}
 use Rattle.store_requests.specs.Bodies.{install_bytes, standing_in}
 use Rattle.vo_store.specs.Calls.{same_record}
-use Rattle.vo_commands.specs.Lines.{owner_refusal}
+use Rattle.hex.specs.Hex.{encode_lower}
+use Rattle.outside.specs.Outputs.{Output}
+use Rattle.vo_commands.specs.Lines.{command_output, proof_refusal, spent_key}
 
 -- How batches and entries stand in frames.
 
@@ -59,33 +61,38 @@ entry_forms = record {
 
 -- What the owner makes of a batch.
 
--- which refusals are of the batch or of the key, and which of the proofs
-abbrev pub cause_of : OwnerFault → RefusalCause
-cause_of (fault.Command index why) = Command
-cause_of (fault.ProofForm index) = Proofs
-cause_of (fault.ProofRoot index want got) = Proofs
-cause_of (fault.ProofMissing index) = Proofs
-cause_of (fault.ProofSurplus index) = Proofs
-cause_of fault.KeySpent = Command
-cause_of fault.Memory = Proofs
+-- what an owner refuses: the batch or the key, or the proofs, each with its line; want of memory is
+-- no refusal
+abbrev pub refusal_of : OwnerFault → Option (RefusalCause × Output)
+refusal_of (fault.Command index why) = Some (Command, command_output index why)
+refusal_of (fault.ProofForm index) = Some (Proofs, proof_refusal (codes "form") index [])
+refusal_of (fault.ProofRoot index want got) =
+    Some (Proofs, proof_refusal (codes "root") index (encode_lower want ∷ encode_lower got ∷ []))
+refusal_of (fault.ProofMissing index) = Some (Proofs, proof_refusal (codes "missing") index [])
+refusal_of (fault.ProofSurplus index) = Some (Proofs, proof_refusal (codes "surplus") index [])
+refusal_of fault.KeySpent = Some (Command, spent_key)
+refusal_of fault.Memory = None
 
 abbrev pub held_behind : Held → Step → Held
 held_behind held step = record held { roots = step.roots }
 
-abbrev pub judgement_of : Held → Result Step OwnerFault → Judgement Held Entry
-judgement_of held (Ok step) = Makes step.entry (held_behind held step)
-judgement_of held (Err why) = Refuses (cause_of why) (owner_refusal why).bytes
+abbrev pub judgement_of : Held → Result Step OwnerFault → Option (Judgement Held Entry)
+judgement_of held (Ok step) = Some (Makes step.entry (held_behind held step))
+judgement_of held (Err why) =
+    option_map (λ (r : RefusalCause × Output). Refuses r.0 r.1.bytes) (refusal_of why)
 
 -- an owner of this key, with these roots, makes this of a batch by the bytes of its proofs
 abbrev pub IsJudgement : Held → Batch → List ℕ → Judgement Held Entry → Type 0
 IsJudgement held batch proofs judgement =
     (answer : Result Step OwnerFault) × StepOf held.key held.roots batch.commands proofs answer
-    × (judgement ≡ judgement_of held answer)
+    × (judgement_of held answer ≡ Some judgement)
 
 -- the owner takes no step for this fault, unless memory ran out
 abbrev pub RefusesBy : OwnerFault → NoStep → Type 0
-RefusesBy why (Refused refusal) = (why ≢ fault.Memory) × (refusal.cause ≡ cause_of why)
-    × (refusal.lines.items ≡ (owner_refusal why).bytes)
+RefusesBy why (Refused refusal) =
+    option_map {U = RefusalCause × List ℕ} (λ (r : RefusalCause × Output). (r.0, r.1.bytes))
+    (refusal_of why)
+    ≡ Some (refusal.cause, refusal.lines.items)
 RefusesBy why Memory = Unit {0}
 
 -- the step is one of an owner that stands so

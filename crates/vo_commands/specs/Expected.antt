@@ -44,18 +44,19 @@ use Rattle.vo_store.specs.Replying.{HasReply, HasReplyAt, IsNoVersion}
 use Rattle.vo_words.specs.Shapes.{PlainShape}
 use Rattle.vo_words.specs.PlainRequest.{PlainRequest, Keygen, Seal, Own, Answer, Serve, Check, Ask, Audit, Explain, Meet, Generate}
 use Rattle.sql_text.specs.Scripts.{IsScript}
-use Rattle.vo_commands.specs.Lines.{success, refusal, input_refusal, asked_output, no_version, gen_output, audit_output, unsigned_output, unsigned_lines, explanation_lines, meet_output, bad_journal, command_output, spent_key, store_refusal, bad_frame, cut_off}
+use Rattle.vo_commands.specs.Lines.{success, refusal, input_refusal, check_output, no_version, gen_output, audit_output, unsigned_output, unsigned_lines, explanation_lines, meet_output, bad_journal, command_output, spent_key, store_refusal, bad_frame, cut_off}
 use Rattle.vo_commands.specs.Texts.{IsQueryText, IsRefusedQuery, IsRefusedScript}
 
 -- These lines; or what is expected of the query or the script that a text is; or what a relation
--- allows: the reply to a query by a journal, what a client or an auditor answers to one, or an
--- auditor to the key's owner, what two replies are to each other, and why no store of a journal
--- serves connections; or, with no lines of its own, that an owner of a key commits batches; or
--- anything, where the network isn't known. A version may be asked for (`at`).
+-- allows: the journal of a script's batches, the reply to a query by a journal, what a client or an
+-- auditor answers to one, or an auditor to the key's owner, what two replies are to each other, and
+-- why no store of a journal serves connections; or, with no lines of its own, that an owner of a key
+-- commits batches; or anything, where the network isn't known. A version may be asked for (`at`).
 pub data Expected : Type 0 where
   Exactly : (output : Output) → Expected
   OfQuery : (text : List ℕ) (rest : Query → Expected) → Expected
   OfScript : (text : List ℕ) (rest : List Batch → Expected) → Expected
+  Seals : (secret : Secret) (batches : List Batch) → Expected
   Replies : (key journal : List ℕ) (at : Option ℕ) (q : Query) → Expected
   Checks : (key : List ℕ) (at : Option ℕ) (least : ℕ) (q : Query) (reply : List ℕ) → Expected
   Audits : (key journal : List ℕ) (q : Query) (reply : List ℕ) → Expected
@@ -70,6 +71,19 @@ abbrev pub reply_output : List ℕ → Output
 reply_output bytes =
     if nat_lt max_reply (length bytes)
     then refusal 1 (codes "too large" ∷ decimal (length bytes) ∷ []) else success bytes
+
+-- the journal, where the batches have no fault, or the first of these; want of memory is none
+abbrev pub sealed_output : Option SealFault → List ℕ → Option Output
+sealed_output None journal = Some (success journal)
+sealed_output (Some seal.KeySpent) journal = Some spent_key
+sealed_output (Some (seal.Command index fault)) journal = Some (command_output index fault)
+sealed_output (Some seal.Memory) journal = None
+
+-- the journal of a script's batches, or the first refusal
+abbrev pub seal_output : Secret → List Batch → Option Output
+seal_output secret batches =
+    sealed_output (seal_fault (secret_leaves secret) ([] ∷ []) (commands_of batches))
+    (journal_bytes (seal_batches secret (commands_of batches)))
 
 -- what a store that has loaded the journal replies by the version that is asked for, or by the last
 abbrev pub HasReplyFor : List ℕ → List ℕ → Option ℕ → Query → List ℕ → Type 0
@@ -105,7 +119,7 @@ IsToldToOwner secret journal (Ok (Unsigned rec signature last)) output =
     (es : List Entry) × IsJournal journal es × (found : Explanation)
     × Explained (forgery_of secret (records_of es) rec signature) found
     × (output ≡ unsigned_output (unsigned_lines rec signature last ++ explanation_lines found))
-IsToldToOwner secret journal answer output = output ≡ audit_output answer
+IsToldToOwner secret journal answer output = audit_output answer ≡ Some output
 
 abbrev pub Allows : Expected → Output → Type 0
 Allows (Exactly expected) output = output ≡ expected
@@ -115,20 +129,21 @@ Allows (OfQuery text rest) output =
 Allows (OfScript text rest) output =
     ((batches : List Batch) × IsScript text batches × Allows (rest batches) output)
     ⊎ (((batches : List Batch) → IsScript text batches → ⊥) × IsRefusedScript text output)
+Allows (Seals secret batches) output = seal_output secret batches ≡ Some output
 Allows (Replies key journal at q) output = IsStoreOutput key journal at q output
 Allows (Checks key at least q reply) output =
     (answer : Result Accepted CheckFault) × CheckOf key least q reply answer
-    × (output ≡ asked_output at answer)
+    × (check_output at answer ≡ Some output)
 Allows (Audits key journal q reply) output =
     (answer : Result Verdict AuditFault) × OwnedAuditOf key journal q reply answer
-    × (output ≡ audit_output answer)
+    × (audit_output answer ≡ Some output)
 Allows (Explains secret journal q reply) output =
     (answer : Result Verdict AuditFault)
     × OwnedAuditOf (public_of_secret secret) journal q reply answer
     × IsToldToOwner secret journal answer output
 Allows (Meets key q first second) output =
     (met : Result (Reply × Reply × Meeting) MeetFault) × RepliesMeet key q first second met
-    × (output ≡ meet_output met)
+    × (meet_output met ≡ Some output)
 Allows (Serves key journal count) output =
     (index : ℕ) × IsUnservableAt key journal index × (output ≡ bad_journal index)
 Allows (Owns secret batches) output = ⊥
@@ -201,22 +216,10 @@ abbrev pub with_text : (List ℕ → Expected) → List ℕ → Expected
 with_text rest bytes =
     if is_utf8 bytes then rest bytes else Exactly (input_refusal (codes "not text" ∷ []))
 
--- the journal of a script's batches, or the first refusal
-abbrev pub sealed_output : Option SealFault → List ℕ → Output
-sealed_output None journal = success journal
-sealed_output (Some seal.KeySpent) journal = spent_key
-sealed_output (Some (seal.Command index fault)) journal = command_output index fault
-sealed_output (Some seal.Memory) journal = refusal 8 []
-
-abbrev pub seal_output : Secret → List Batch → Output
-seal_output secret batches =
-    sealed_output (seal_fault (secret_leaves secret) ([] ∷ []) (commands_of batches))
-    (journal_bytes (seal_batches secret (commands_of batches)))
-
 -- of a script's bytes
 abbrev pub script_expected : Secret → List ℕ → Expected
 script_expected secret =
-    with_text (λ text. OfScript text (λ batches. Exactly (seal_output secret batches)))
+    with_text (λ text. OfScript text (Seals secret))
 
 -- the rest of the work on the body of an answer, which a refusal is not
 abbrev pub with_body : FrameKind → List ℕ → (List ℕ → Expected) → Expected

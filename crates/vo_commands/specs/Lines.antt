@@ -1,5 +1,5 @@
 -- The output of the program: a status, and lines of text.
-use Rattle.std.specs.Prelude.{ℕ, List, [], ◌∷◌, ◌++◌, map, flat_map, length, codes, decimal, ◌==◌, if◌then◌else◌, true, false, Option, Some, None, Result, Ok, Err}
+use Rattle.std.specs.Prelude.{ℕ, List, [], ◌∷◌, ◌++◌, map, flat_map, length, codes, decimal, ◌==◌, if◌then◌else◌, true, false, Option, Some, None, option_map, Result, Ok, Err}
 use Rattle.std.specs.Fmt.{signed_decimal}
 use Rattle.hex.specs.Hex.{encode_lower}
 use Rattle.outside.specs.Outputs.{Output, line}
@@ -92,28 +92,33 @@ outcome_lines (Wrong fault) = words_line (codes "wrong:" ∷ wrong_words fault)
 abbrev pub version_line : ℕ → List ℕ
 version_line version = words_line (codes "version" ∷ decimal version ∷ [])
 
-abbrev pub fault_words : CheckFault → List (List ℕ)
-fault_words (check.TooLong length) = codes "too long" ∷ decimal length ∷ []
-fault_words check.BadForm = codes "bad form" ∷ []
+-- why a reply is refused, in words; want of memory is no refusal and has none
+abbrev pub fault_words : CheckFault → Option (List (List ℕ))
+fault_words (check.TooLong length) = Some (codes "too long" ∷ decimal length ∷ [])
+fault_words check.BadForm = Some (codes "bad form" ∷ [])
 fault_words (check.WrongKey want got) =
-    codes "wrong key" ∷ encode_lower want ∷ encode_lower got ∷ []
-fault_words (check.WrongLeaf version q) = codes "wrong leaf" ∷ decimal version ∷ decimal q ∷ []
-fault_words check.BadSignature = codes "bad signature" ∷ []
-fault_words (check.Stale least got) = codes "stale" ∷ decimal least ∷ decimal got ∷ []
+    Some (codes "wrong key" ∷ encode_lower want ∷ encode_lower got ∷ [])
+fault_words (check.WrongLeaf version q) =
+    Some (codes "wrong leaf" ∷ decimal version ∷ decimal q ∷ [])
+fault_words check.BadSignature = Some (codes "bad signature" ∷ [])
+fault_words (check.Stale least got) = Some (codes "stale" ∷ decimal least ∷ decimal got ∷ [])
 fault_words (check.WrongCatalog want got) =
-    codes "wrong catalog" ∷ encode_lower want ∷ encode_lower got ∷ []
-fault_words (check.WrongTrees want got) = codes "wrong trees" ∷ decimal want ∷ decimal got ∷ []
-fault_words check.WrongShape = codes "wrong shape" ∷ []
+    Some (codes "wrong catalog" ∷ encode_lower want ∷ encode_lower got ∷ [])
+fault_words (check.WrongTrees want got) =
+    Some (codes "wrong trees" ∷ decimal want ∷ decimal got ∷ [])
+fault_words check.WrongShape = Some (codes "wrong shape" ∷ [])
 fault_words (check.WrongRoot table want got) =
-    codes "wrong root" ∷ table ∷ encode_lower want ∷ encode_lower got ∷ []
-fault_words check.Missing = codes "missing" ∷ []
-fault_words check.Surplus = codes "surplus" ∷ []
-fault_words check.Memory = []
+    Some (codes "wrong root" ∷ table ∷ encode_lower want ∷ encode_lower got ∷ [])
+fault_words check.Missing = Some (codes "missing" ∷ [])
+fault_words check.Surplus = Some (codes "surplus" ∷ [])
+fault_words check.Memory = None
 
--- Want of memory has no lines: it has a status of its own.
-abbrev pub check_output : Result Answer CheckFault → Output
-check_output (Ok answer) = success (version_line answer.version ++ outcome_lines answer.outcome)
-check_output (Err fault) = refusal 1 (fault_words fault)
+-- behind a beginning that says which reply it is
+abbrev pub fault_output : List ℕ → CheckFault → Option Output
+fault_output beginning fault = option_map (line_output beginning 1) (fault_words fault)
+
+abbrev pub answer_output : Answer → Output
+answer_output answer = success (version_line answer.version ++ outcome_lines answer.outcome)
 
 -- What is printed where a version was asked for, or none.
 
@@ -126,12 +131,15 @@ no_version version oldest newest =
 abbrev pub other_version : ℕ → ℕ → Output
 other_version version got = refusal 1 (codes "version" ∷ decimal version ∷ decimal got ∷ [])
 
-abbrev pub asked_output : Option ℕ → Result Answer CheckFault → Output
-asked_output None answer = check_output answer
-asked_output (Some version) (Err fault) = check_output (Err fault)
-asked_output (Some version) (Ok answer) =
-    if answer.version == version then check_output (Ok answer)
-    else other_version version answer.version
+-- an answer, where no other version was asked for
+abbrev pub asked_output : Option ℕ → Answer → Output
+asked_output None answer = answer_output answer
+asked_output (Some version) answer =
+    if answer.version == version then answer_output answer else other_version version answer.version
+
+abbrev pub check_output : Option ℕ → Result Answer CheckFault → Option Output
+check_output at (Ok answer) = Some (asked_output at answer)
+check_output at (Err fault) = fault_output (codes "refused:") fault
 
 -- What a store answers over a network in place of a reply.
 
@@ -148,19 +156,19 @@ cut_off got = line_output (codes "cut") 9 (decimal got ∷ [])
 
 -- Refusals of texts.
 
-abbrev pub sql_words : SqlFault → List (List ℕ)
-sql_words sql.TooLong = codes "sql too long" ∷ []
-sql_words (sql.Token at) = codes "sql token" ∷ decimal at ∷ []
-sql_words (sql.Syntax at) = codes "sql syntax" ∷ decimal at ∷ []
-sql_words (sql.Literal at) = codes "sql literal" ∷ decimal at ∷ []
-sql_words sql.Nesting = codes "sql nesting" ∷ []
-sql_words sql.Name = codes "sql name" ∷ []
-sql_words sql.TooMany = codes "sql too many" ∷ []
-sql_words sql.Memory = []
+-- a text's fault in words; want of memory is none
+abbrev pub sql_words : SqlFault → Option (List (List ℕ))
+sql_words sql.TooLong = Some (codes "sql too long" ∷ [])
+sql_words (sql.Token at) = Some (codes "sql token" ∷ decimal at ∷ [])
+sql_words (sql.Syntax at) = Some (codes "sql syntax" ∷ decimal at ∷ [])
+sql_words (sql.Literal at) = Some (codes "sql literal" ∷ decimal at ∷ [])
+sql_words sql.Nesting = Some (codes "sql nesting" ∷ [])
+sql_words sql.Name = Some (codes "sql name" ∷ [])
+sql_words sql.TooMany = Some (codes "sql too many" ∷ [])
+sql_words sql.Memory = None
 
--- want of memory has no lines here either
-abbrev pub sql_output : SqlFault → Output
-sql_output fault = input_refusal (sql_words fault)
+abbrev pub sql_output : SqlFault → Option Output
+sql_output fault = option_map input_refusal (sql_words fault)
 
 -- Evidence.
 
@@ -197,11 +205,11 @@ abbrev pub bad_journal : ℕ → Output
 bad_journal index =
     record { status = 7; bytes = words_line (codes "bad journal" ∷ decimal index ∷ []) }
 
-abbrev pub audit_output : Result Verdict AuditFault → Output
-audit_output (Ok verdict) = verdict_output verdict
-audit_output (Err (audit.BadJournal index)) = bad_journal index
-audit_output (Err (audit.Refused fault)) = refusal 1 (fault_words fault)
-audit_output (Err audit.Memory) = refusal 1 []
+abbrev pub audit_output : Result Verdict AuditFault → Option Output
+audit_output (Ok verdict) = Some (verdict_output verdict)
+audit_output (Err (audit.BadJournal index)) = Some (bad_journal index)
+audit_output (Err (audit.Refused fault)) = fault_output (codes "refused:") fault
+audit_output (Err audit.Memory) = None
 
 -- what explains that a signature is valid which the owner never made
 abbrev pub explanation_lines : Explanation → List ℕ
@@ -235,11 +243,11 @@ meeting_output first second meeting.Same = same_output first.rec.version
 meeting_output first second (meeting.Collides found) = collision_output found
 
 -- two replies and what they are to each other, or which of them is refused
-abbrev pub meet_output : Result (Reply × Reply × Meeting) MeetFault → Output
-meet_output (Ok met) = meeting_output met.0 met.1 met.2
-meet_output (Err (First fault)) = line_output (codes "refused first:") 1 (fault_words fault)
-meet_output (Err (Second fault)) = line_output (codes "refused second:") 1 (fault_words fault)
-meet_output (Err Memory) = refusal 1 []
+abbrev pub meet_output : Result (Reply × Reply × Meeting) MeetFault → Option Output
+meet_output (Ok met) = Some (meeting_output met.0 met.1 met.2)
+meet_output (Err (First fault)) = fault_output (codes "refused first:") fault
+meet_output (Err (Second fault)) = fault_output (codes "refused second:") fault
+meet_output (Err Memory) = None
 
 -- What `gen` prints of a workload.
 
@@ -284,14 +292,3 @@ spent_key = refusal 8 (codes "key spent" ∷ [])
 -- the proof of the command of this number is refused
 abbrev pub proof_refusal : List ℕ → ℕ → List (List ℕ) → Output
 proof_refusal why index digests = refusal 1 (codes "proof" ∷ why ∷ decimal index ∷ digests)
-
--- want of memory has no lines here either
-abbrev pub owner_refusal : OwnerFault → Output
-owner_refusal (owner.Command index why) = command_output index why
-owner_refusal (owner.ProofForm index) = proof_refusal (codes "form") index []
-owner_refusal (owner.ProofRoot index want got) =
-    proof_refusal (codes "root") index (encode_lower want ∷ encode_lower got ∷ [])
-owner_refusal (owner.ProofMissing index) = proof_refusal (codes "missing") index []
-owner_refusal (owner.ProofSurplus index) = proof_refusal (codes "surplus") index []
-owner_refusal owner.KeySpent = spent_key
-owner_refusal owner.Memory = refusal 1 []

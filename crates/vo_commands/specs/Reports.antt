@@ -1,5 +1,5 @@
 -- Reports as the output of the program.
-use Rattle.std.specs.Prelude.{◌≡◌, ℕ, Bool, true, false, List, Option, Result, Ok, Err}
+use Rattle.std.specs.Prelude.{◌≡◌, ℕ, List, Option, Some, None, Result, Ok, Err}
 use Rattle.outside.specs.Outputs.{Output, Writes, outside_failure}
 use Rattle.vo_commands.specs.declared.report.Status.{Status}
 use Rattle.vo_commands.specs.declared.report.Status.TheVariants.{Done, RefusedReply, RefusedInput, Collision, Unsigned, BadJournal, RefusedCommand, BadAnswer}
@@ -71,10 +71,11 @@ ReadsText {B = B} view Is IsRefused (Err (Refused report)) =
 ReadsText view Is IsRefused (Err Outside) = ⊥
 ReadsText view Is IsRefused (Err Memory) = Unit {0}
 
--- after a fault of a text: this is printed, unless memory ended
-abbrev pub StopsWith : Bool → Output → Stop → Type 0
-StopsWith true output stop = stop ≡ Memory
-StopsWith false output stop = Prints output stop
+-- after a fault of a text: its output is printed; or it was want of memory, which has none
+abbrev pub StopsWith : Option Output → Stop → Type 0
+StopsWith told (Refused report) = told ≡ Some (output_of report)
+StopsWith told Outside = ⊥
+StopsWith told Memory = told ≡ None
 
 -- what is written of a command's answer
 abbrev pub WritesOutcome : Result Report Stop → Type 0 → ℕ → Option (List ℕ) → Option (List ℕ)

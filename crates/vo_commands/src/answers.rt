@@ -1,6 +1,6 @@
 //! What `check` prints of a reply that it accepts: the answer.
 ghost use Rattle.std.specs.Prelude.{◌≡◌, [], ◌∷◌, ◌++◌, map, flat_map, codes, IfOk, OnOk};
-ghost use Rattle.vo_commands.specs.Lines.{check_output, outcome_lines, words_line, columns_line, literal};
+ghost use Rattle.vo_commands.specs.Lines.{answer_output, outcome_lines, words_line, columns_line, literal};
 ghost use Rattle.vo_commands.specs.Reports.{output_of};
 ghost use Rattle.vo_spec.specs.Results.{ref_title};
 
@@ -13,7 +13,7 @@ use vo_spec::{Answer, List, Outcome, QueryFault, Ref, Value};
 /// The answer: its version, and then the header and a line for each row, or what is wrong with the
 /// query.
 pub fn answer_report(alloc: Global, answer: &Answer) -> Result<Report, AllocError>
-    ensures { IfOk result (λ report. output_of report ≡ check_output (Ok answer.now)) }
+    ensures { IfOk result (λ report. output_of report ≡ answer_output answer.now) }
 {
     let mut bytes = Vec::new(alloc);
     push_words(

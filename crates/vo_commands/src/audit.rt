@@ -1,5 +1,6 @@
 //! `audit`: the verdict of an auditor with the owner's journal on a reply.
-ghost use Rattle.std.specs.Prelude.{◌≡◌, ◌⊎◌, [], ◌∷◌, Err, IfSome};
+ghost use Rattle.std.specs.Prelude.{◌≡◌, [], ◌∷◌, IfSome, Some};
+ghost use Rattle.outside.specs.Outputs.{Output};
 ghost use Rattle.vo_spec.specs.Conditions.{query_of};
 ghost use Rattle.vo_commands.specs.Expected.{audit_expected, Expected, Allows, OfQuery, with_file, reply_limit, Audits};
 ghost use Rattle.vo_commands.specs.Lines.{audit_output};
@@ -17,7 +18,7 @@ use lms_sign::PublicKey;
 use outside::Shelf;
 use std::alloc::Global;
 use vo_audit::audit as audit_reply;
-use vo_spec::{AuditFault, CheckFault, QueryText, Verdict};
+use vo_spec::{AuditFault, QueryText, Verdict};
 
 /// The verdict on the reply, or why there is none.
 pub fn audit<F: Shelf>(
@@ -104,17 +105,14 @@ pub(crate) fn report_of(
     verdict: &Result<Verdict, AuditFault>,
 ) -> Result<Report, Stop>
     ensures known { (expected : Expected)
-        → (verdict.now ≡ Err AuditFault.Memory) ⊎ Allows expected (audit_output verdict.now)
+        → ((output : Output) → audit_output verdict.now ≡ Some output → Allows expected output)
         → Answers expected result }
     ensures inside { StaysInside result }
 {
     match verdict {
         Ok(verdict) => Ok(verdict_report(alloc, verdict)?),
         Err(AuditFault::BadJournal { index }) => Err(Stop::Refused(bad_entry(alloc, *index)?)),
-        Err(AuditFault::Refused(CheckFault::Memory)) => Err(Stop::Memory),
-        Err(AuditFault::Refused(fault)) => {
-            Err(Stop::Refused(reply_refusal(alloc, "refused:", fault)?))
-        }
+        Err(AuditFault::Refused(fault)) => Err(reply_refusal(alloc, "refused:", fault)),
         Err(AuditFault::Memory) => Err(Stop::Memory),
     }
 }

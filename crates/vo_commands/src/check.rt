@@ -1,9 +1,10 @@
 //! `check`: the answer that a client takes from a reply, or why it refuses it.
-ghost use Rattle.std.specs.Prelude.{◌≡◌, ◌⊎◌, ℕ, List, [], ◌∷◌, None, Ok, Err, IfSome};
+ghost use Rattle.std.specs.Prelude.{◌≡◌, ◌⊎◌, ℕ, List, [], ◌∷◌, None, Some, Err, IfSome};
+ghost use Rattle.outside.specs.Outputs.{Output};
 ghost use Rattle.vo_spec.specs.Checks.{CheckOf};
 ghost use Rattle.vo_spec.specs.Conditions.{Query, query_of};
-ghost use Rattle.vo_commands.specs.Expected.{check_expected, with_file, reply_limit, Checks, Exactly};
-ghost use Rattle.vo_commands.specs.Lines.{asked_output};
+ghost use Rattle.vo_commands.specs.Expected.{Allows, Expected, check_expected, with_file, reply_limit, Checks};
+ghost use Rattle.vo_commands.specs.Lines.{asked_output, check_output};
 ghost use Rattle.vo_commands.specs.Reports.{Answers, StaysInside};
 ghost use Rattle.vo_commands.specs.Taking.{TakesFiles, One, Along};
 
@@ -99,21 +100,21 @@ fn report_of(
     at: Option<u64>,
     answer: &Result<Answer, CheckFault>,
 ) -> Result<Report, Stop>
-    ensures known { (key : List ℕ) (least : ℕ) (q : Query) (reply : List ℕ)
-        → (answer.now ≡ Err CheckFault.Memory) ⊎ CheckOf key least q reply answer.now
-        → Answers (Checks key at least q reply) result }
+    ensures known { (expected : Expected)
+        → ((output : Output) → check_output at answer.now ≡ Some output → Allows expected output)
+        → Answers expected result }
     ensures inside { StaysInside result }
 {
     match answer {
         Ok(answer) => accepted_report(alloc, at, answer),
-        Err(CheckFault::Memory) => Err(Stop::Memory),
-        Err(fault) => Err(Stop::Refused(reply_refusal(alloc, "refused:", fault)?)),
+        Err(fault) => Err(reply_refusal(alloc, "refused:", fault)),
     }
 }
 
 /// An answer that a client accepts; where another version was asked for, it is refused.
 fn accepted_report(alloc: Global, at: Option<u64>, answer: &Answer) -> Result<Report, Stop>
-    ensures known { Answers (Exactly (asked_output at (Ok answer.now))) result }
+    ensures known { (expected : Expected) → Allows expected (asked_output at answer.now)
+        → Answers expected result }
     ensures inside { StaysInside result }
 {
     match at {

@@ -1,5 +1,6 @@
 //! `audit --seed`: the verdict to the key's owner, who has its seed.
 ghost use Rattle.std.specs.Prelude.{◌≡◌, ℕ, List, [], ◌∷◌, Contains, IfNone, IfOk, IfSome, IsTrue, Ok, Some};
+ghost use Rattle.outside.specs.Outputs.{Output};
 ghost use Rattle.vo_words.specs.Shapes.{plain_shape};
 ghost use Rattle.vo_spec.specs.declared.records.Entry.{Entry};
 ghost use Rattle.vo_spec.specs.declared.checks.Verdict.TheVariants.{Unsigned};
@@ -145,8 +146,9 @@ fn owner_report(
 fn unsigned_in(verdict: &Result<Verdict, AuditFault>) -> Option<UnsignedRecord<'_>>
     ensures some { IfSome result (λ found. verdict.now
         ≡ Ok (Unsigned found.rec.now found.signature.now found.last)) }
-    ensures none { IfNone result ((secret : Secret) (journal : List ℕ)
-        → IsToldToOwner secret journal verdict.now (audit_output verdict.now)) }
+    ensures none { IfNone result ((secret : Secret) (journal : List ℕ) (output : Output)
+        → audit_output verdict.now ≡ Some output
+        → IsToldToOwner secret journal verdict.now output) }
 {
     match verdict {
         Ok(

@@ -7,7 +7,7 @@ ghost use Rattle.vo_spec.specs.Journals.{FitsEntry};
 ghost use Rattle.owner_journal.specs.Entries.{entries_of};
 ghost use Rattle.owner_journal.specs.Resting.{HoldsWith, IsAtRest};
 ghost use Rattle.owner_session.specs.Runs.{KeepsBy};
-ghost use Rattle.vo_commands.specs.Committing.{AreOfVersions, CanGoOn, Follows, IsJudgement, LeavesWith, RefusesBy, entry_forms, held_behind, place_beside, place_by};
+ghost use Rattle.vo_commands.specs.Committing.{AreOfVersions, CanGoOn, Follows, IsJudgement, LeavesWith, entry_forms, held_behind, place_beside, place_by};
 
 use crate::owner_refusals::owner_refusal;
 use batch_format::batch_bytes;
@@ -105,7 +105,7 @@ impl<D: Disk, K: Loan> SessionOwner for JournalOwner<'_, D, K> {
     fn step(&self, alloc: Global, batch: &Batch, proofs: &[u8]) -> Result<Step, NoStep> {
         match self.owner.step(alloc, batch, proofs) {
             Ok(step) => Ok(step),
-            Err(fault) => Err(no_step(alloc, fault)),
+            Err(fault) => Err(owner_refusal(alloc, fault)),
         }
     }
 
@@ -227,22 +227,4 @@ fn proposal(alloc: Global, batch: &Batch) -> Result<Vec<u8>, AllocError>
     ensures fits { IfOk result (λ body. length body.items + 1 < 2 ^ 32) }
 {
     batch_bytes(alloc, batch)
-}
-
-/// Why the owner makes no entry, with the lines that say it.
-fn no_step(alloc: Global, fault: OwnerFault) -> NoStep
-    ensures { RefusesBy fault result }
-{
-    let cause = match fault {
-        OwnerFault::Command { .. } | OwnerFault::KeySpent => RefusalCause::Command,
-        OwnerFault::Memory => return NoStep::Memory,
-        _ => RefusalCause::Proofs,
-    };
-    match owner_refusal(alloc, fault) {
-        Ok(report) => NoStep::Refused(Refusal {
-            cause,
-            lines: report.bytes,
-        }),
-        Err(_) => NoStep::Memory,
-    }
 }

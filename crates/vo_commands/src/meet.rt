@@ -1,9 +1,12 @@
 //! `meet`: two replies to one query against each other.
-ghost use Rattle.std.specs.Prelude.{◌≡◌, ◌⊎◌, ℕ, List, [], ◌∷◌, Err, IfSome};
+ghost use Rattle.std.specs.Prelude.{◌≡◌, ◌≢◌, ◌⊎◌, ℕ, List, [], ◌∷◌, Err, Some, IfSome};
+ghost use Rattle.outside.specs.Outputs.{Output};
 ghost use Rattle.vo_spec.specs.Conditions.{Query, query_of};
 ghost use Rattle.reply_meeting.specs.Meetings.{RepliesMeet};
 ghost use Rattle.reply_meeting.specs.Views.{met_of};
-ghost use Rattle.vo_commands.specs.Expected.{meet_expected, with_file, reply_limit, Meets};
+ghost use Rattle.vo_commands.specs.declared.report.Stop.TheVariants.{Outside};
+ghost use Rattle.vo_commands.specs.Expected.{Allows, Expected, meet_expected, with_file, reply_limit, Meets};
+ghost use Rattle.vo_commands.specs.Lines.{meet_output};
 ghost use Rattle.vo_commands.specs.Reports.{Answers, StaysInside};
 ghost use Rattle.vo_commands.specs.Taking.{TakesFiles, Along};
 
@@ -89,12 +92,20 @@ fn report_of(alloc: Global, met: &Result<MetReplies<'_>, MeetFault>) -> Result<R
 {
     match met {
         Ok(met) => Ok(meeting_report(alloc, met)?),
-        Err(MeetFault::First(fault)) => {
-            Err(Stop::Refused(reply_refusal(alloc, "refused first:", fault)?))
-        }
-        Err(MeetFault::Second(fault)) => {
-            Err(Stop::Refused(reply_refusal(alloc, "refused second:", fault)?))
-        }
-        Err(MeetFault::Memory) => Err(Stop::Memory),
+        Err(fault) => Err(refusal_of(alloc, fault)),
+    }
+}
+
+/// Which of the two replies is refused, and why.
+fn refusal_of(alloc: Global, fault: &MeetFault) -> Stop
+    ensures known { (expected : Expected)
+        → ((output : Output) → meet_output (Err fault.now) ≡ Some output
+        → Allows expected output) → Answers expected (Err result) }
+    ensures inside { result ≢ Outside }
+{
+    match fault {
+        MeetFault::First(fault) => reply_refusal(alloc, "refused first:", fault),
+        MeetFault::Second(fault) => reply_refusal(alloc, "refused second:", fault),
+        MeetFault::Memory => Stop::Memory,
     }
 }

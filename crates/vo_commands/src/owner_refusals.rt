@@ -1,6 +1,9 @@
 //! Refusals of an owner: a command of the batch, the proofs, or the key.
-ghost use Rattle.std.specs.Prelude.{◌≡◌, map, IfOk};
-ghost use Rattle.vo_commands.specs.Lines.{owner_refusal, proof_refusal};
+ghost use Rattle.std.specs.Prelude.{◌≡◌, map, IfOk, Some};
+ghost use Rattle.outside.specs.Outputs.{Output};
+ghost use Rattle.owner_roots.specs.declared.owner_fault.OwnerFault.{OwnerFault};
+ghost use Rattle.vo_commands.specs.Committing.{RefusesBy, refusal_of};
+ghost use Rattle.vo_commands.specs.Lines.{proof_refusal};
 ghost use Rattle.vo_commands.specs.Reports.{output_of};
 ghost use Rattle.vo_commands.specs.Words.{word_text};
 
@@ -8,26 +11,49 @@ use crate::piece::Word;
 use crate::refusals::{command_refusal, refusal, spent_key};
 use crate::report::{Report, Status};
 use owner_roots::OwnerFault;
+use owner_session::{NoStep, Refusal, RefusalCause};
 use std::alloc::{AllocError, Global};
 
 /// What an owner refuses a batch and its proofs for.
-pub fn owner_refusal(alloc: Global, fault: OwnerFault) -> Result<Report, AllocError>
-    ensures { IfOk result (λ report. output_of report ≡ owner_refusal fault) }
+pub fn owner_refusal(alloc: Global, fault: OwnerFault) -> NoStep
+    ensures { RefusesBy fault result }
 {
     match fault {
-        OwnerFault::Command { index, fault } => command_refusal(alloc, index, fault),
-        OwnerFault::ProofForm { index } => proof_refusal(alloc, "form", index, &[]),
+        OwnerFault::Command { index, fault } => {
+            told(RefusalCause::Command, command_refusal(alloc, index, fault))
+        }
+        OwnerFault::ProofForm { index } => {
+            told(RefusalCause::Proofs, proof_refusal(alloc, "form", index, &[]))
+        }
         OwnerFault::ProofRoot { index, want, got } => {
             let digests = [
                 Word::Hexadecimal(want.as_bytes()),
                 Word::Hexadecimal(got.as_bytes()),
             ];
-            proof_refusal(alloc, "root", index, &digests)
+            told(RefusalCause::Proofs, proof_refusal(alloc, "root", index, &digests))
         }
-        OwnerFault::ProofMissing { index } => proof_refusal(alloc, "missing", index, &[]),
-        OwnerFault::ProofSurplus { index } => proof_refusal(alloc, "surplus", index, &[]),
-        OwnerFault::KeySpent => spent_key(alloc),
-        OwnerFault::Memory => refusal(alloc, Status::RefusedReply, &[]),
+        OwnerFault::ProofMissing { index } => {
+            told(RefusalCause::Proofs, proof_refusal(alloc, "missing", index, &[]))
+        }
+        OwnerFault::ProofSurplus { index } => {
+            told(RefusalCause::Proofs, proof_refusal(alloc, "surplus", index, &[]))
+        }
+        OwnerFault::KeySpent => told(RefusalCause::Command, spent_key(alloc)),
+        OwnerFault::Memory => NoStep::Memory,
+    }
+}
+
+/// A refusal with its lines, if there was memory for these.
+fn told(cause: RefusalCause, report: Result<Report, AllocError>) -> NoStep
+    ensures { (fault : OwnerFault) (output : Output) → refusal_of fault ≡ Some (cause, output)
+        → IfOk report (λ report. output_of report ≡ output) → RefusesBy fault result }
+{
+    match report {
+        Ok(report) => NoStep::Refused(Refusal {
+            cause,
+            lines: report.bytes,
+        }),
+        Err(_) => NoStep::Memory,
     }
 }
 

@@ -1,34 +1,57 @@
 //! What is printed of a reply that a client refuses: why, in one line.
-ghost use Rattle.std.specs.Prelude.{◌≡◌, [], ◌∷◌, map, decimal, IfOk};
+ghost use Rattle.std.specs.Prelude.{◌≡◌, ◌≢◌, [], ◌∷◌, map, codes, decimal, Err, Some, Vec, option_map, IfOk};
+ghost use Rattle.std.specs.Global.{Global};
 ghost use Rattle.hex.specs.Hex.{encode_lower};
-ghost use Rattle.vo_commands.specs.Lines.{fault_words, line_output};
-ghost use Rattle.vo_commands.specs.Reports.{output_of};
+ghost use Rattle.outside.specs.Outputs.{Output};
+ghost use Rattle.vo_commands.specs.declared.report.Stop.TheVariants.{Outside};
+ghost use Rattle.vo_commands.specs.Expected.{Allows, Expected};
+ghost use Rattle.vo_commands.specs.Lines.{fault_output, fault_words, line_output};
+ghost use Rattle.vo_commands.specs.Reports.{Answers};
 ghost use Rattle.vo_commands.specs.Words.{word_text};
 
 use crate::piece::Word;
 use crate::refusals::line_report;
-use crate::report::{Report, Status};
+use crate::report::{Status, Stop};
 use std::alloc::{AllocError, Global};
 use vo_spec::CheckFault;
 
-/// Why a reply is refused, behind a beginning that says which. Want of memory, which is no refusal,
-/// has no words.
-pub fn reply_refusal<'a>(
-    alloc: Global,
-    beginning: &'a str,
-    fault: &'a CheckFault,
-) -> Result<Report, AllocError>
-    ensures { IfOk result (λ report. output_of report
-        ≡ line_output beginning.now 1 (fault_words fault.now)) }
+/// What a command ends with where a reply is refused: why, behind a beginning that says which; or,
+/// where that was the fault, want of memory.
+pub fn reply_refusal<'a>(alloc: Global, beginning: &'a str, fault: &'a CheckFault) -> Stop
+    ensures known { (expected : Expected)
+        → ((output : Output) → fault_output beginning.now fault.now ≡ Some output
+        → Allows expected output) → Answers expected (Err result) }
+    ensures inside { result ≢ Outside }
 {
-    let words = fault_words(alloc, fault)?;
-    line_report(alloc, Status::RefusedReply, beginning, &words)
+    match fault_words(alloc, fault) {
+        Ok(Some(words)) => refusal_line(alloc, beginning, &words),
+        _ => Stop::Memory,
+    }
 }
 
-fn fault_words<'a>(alloc: Global, fault: &'a CheckFault) -> Result<Vec<Word<'a>>, AllocError>
-    ensures { IfOk result (λ words. map word_text words.items ≡ fault_words fault.now) }
+/// The refusal with these words behind its beginning, if there is memory for it.
+fn refusal_line<'a>(alloc: Global, beginning: &'a str, words: &[Word<'a>]) -> Stop
+    ensures known { (expected : Expected)
+        → Allows expected (line_output beginning.now 1 (map word_text words.now))
+        → Answers expected (Err result) }
+    ensures inside { result ≢ Outside }
 {
-    match fault {
+    match line_report(alloc, Status::RefusedReply, beginning, words) {
+        Ok(report) => Stop::Refused(report),
+        Err(_) => Stop::Memory,
+    }
+}
+
+/// Why a reply is refused, in words; none of want of memory, which is no refusal.
+fn fault_words<'a>(
+    alloc: Global,
+    fault: &'a CheckFault,
+) -> Result<Option<Vec<Word<'a>>>, AllocError>
+    ensures { IfOk result (λ words. option_map (λ (w : Vec Word Global).
+        map word_text w.items) words
+        ≡ fault_words fault.now) }
+{
+    let words = match fault {
         CheckFault::TooLong { length } => number_words(alloc, "too long", *length),
         CheckFault::BadForm => phrase_words(alloc, "bad form"),
         CheckFault::WrongKey { want, got } => bytes_words(alloc, "wrong key", want, got),
@@ -47,8 +70,9 @@ fn fault_words<'a>(alloc: Global, fault: &'a CheckFault) -> Result<Vec<Word<'a>>
         }
         CheckFault::Missing => phrase_words(alloc, "missing"),
         CheckFault::Surplus => phrase_words(alloc, "surplus"),
-        CheckFault::Memory => Ok(Vec::new(alloc)),
-    }
+        CheckFault::Memory => return Ok(None),
+    }?;
+    Ok(Some(words))
 }
 
 fn phrase_words<'a>(alloc: Global, what: &'a str) -> Result<Vec<Word<'a>>, AllocError>
@@ -106,7 +130,7 @@ fn root_words<'a>(
     got: &'a [u8],
 ) -> Result<Vec<Word<'a>>, AllocError>
     ensures { IfOk result (λ words. map word_text words.items
-        ≡ fault_words (CheckFault.WrongRoot table.now want.now got.now)) }
+        ≡ codes "wrong root" ∷ table.now ∷ encode_lower want.now ∷ encode_lower got.now ∷ []) }
 {
     let words = [
         Word::Phrase("wrong root"),

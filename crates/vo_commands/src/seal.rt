@@ -1,6 +1,6 @@
 //! `seal`: the journal of a script's batches.
 ghost use Rattle.std.specs.Prelude.{[], ◌∷◌, IfSome};
-ghost use Rattle.vo_commands.specs.Expected.{Exactly, script_expected, seal_expected, seal_output};
+ghost use Rattle.vo_commands.specs.Expected.{Seals, script_expected, seal_expected};
 ghost use Rattle.vo_commands.specs.Reports.{Answers, StaysInside};
 ghost use Rattle.vo_words.specs.Shapes.{plain_shape};
 ghost use Rattle.owner_state.specs.Sealing.{FitEach};
@@ -53,7 +53,7 @@ fn seal_script(alloc: Global, key: &SecretKey, script: &[u8]) -> Result<Report, 
 
 fn journal_report(alloc: Global, key: &SecretKey, batches: List<Batch>) -> Result<Report, Stop>
     requires { FitEach batches }
-    ensures known { Answers (Exactly (seal_output key.now batches)) result }
+    ensures known { Answers (Seals key.now batches) result }
     ensures inside { StaysInside result }
 {
     match seal_batches(alloc, key, batches) {

@@ -1,8 +1,7 @@
 //! What is printed of a text that is no query or no script: its first fault.
-ghost use Rattle.std.specs.Prelude.{◌≡◌, [], ◌∷◌, decimal, false, IfOk};
+ghost use Rattle.std.specs.Prelude.{◌≡◌, [], ◌∷◌, decimal, IfOk};
 ghost use Rattle.vo_commands.specs.Lines.{input_refusal, sql_output};
 ghost use Rattle.vo_commands.specs.Reports.{StopsWith, output_of};
-ghost use Rattle.vo_commands.specs.Texts.{is_want_of_memory};
 
 use crate::piece::Word;
 use crate::refusals::refusal;
@@ -10,29 +9,11 @@ use crate::report::{Report, Status, Stop};
 use sql_text::SqlFault;
 use std::alloc::{AllocError, Global};
 
-/// Why there is nothing to go on with after a fault of a text.
+/// Why there is nothing to go on with after a fault of a text: it, in one line, or want of memory.
 pub fn stop_after(alloc: Global, fault: SqlFault) -> Result<Stop, AllocError>
-    ensures { IfOk result (λ stop. StopsWith (is_want_of_memory fault) (sql_output fault) stop) }
+    ensures { IfOk result (λ stop. StopsWith (sql_output fault) stop) }
 {
-    if is_want_of_memory(fault) {
-        Ok(Stop::Memory)
-    } else {
-        Ok(Stop::Refused(text_refusal(alloc, fault)?))
-    }
-}
-
-fn is_want_of_memory(fault: SqlFault) -> bool
-    ensures { result ≡ is_want_of_memory fault }
-{
-    matches!(fault, SqlFault::Memory)
-}
-
-/// The fault in one line. Want of memory is none.
-fn text_refusal(alloc: Global, fault: SqlFault) -> Result<Report, AllocError>
-    requires { is_want_of_memory fault ≡ false }
-    ensures { IfOk result (λ report. output_of report ≡ sql_output fault) }
-{
-    match fault {
+    let report = match fault {
         SqlFault::TooLong => phrase_refusal(alloc, "sql too long"),
         SqlFault::Token { at } => refusal_at(alloc, "sql token", at),
         SqlFault::Syntax { at } => refusal_at(alloc, "sql syntax", at),
@@ -40,8 +21,9 @@ fn text_refusal(alloc: Global, fault: SqlFault) -> Result<Report, AllocError>
         SqlFault::Nesting => phrase_refusal(alloc, "sql nesting"),
         SqlFault::Name => phrase_refusal(alloc, "sql name"),
         SqlFault::TooMany => phrase_refusal(alloc, "sql too many"),
-        SqlFault::Memory => unreachable!(),
-    }
+        SqlFault::Memory => return Ok(Stop::Memory),
+    }?;
+    Ok(Stop::Refused(report))
 }
 
 fn phrase_refusal(alloc: Global, what: &str) -> Result<Report, AllocError>
