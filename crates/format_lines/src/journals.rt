@@ -189,11 +189,7 @@ fn owned_text(alloc: Global, owned: &OwnedJournal<'_>) -> Result<String, NoAnswe
 }
 
 /// How many entries there are, and the catalog of a version, if they have that.
-fn version_text(
-    alloc: Global,
-    count: usize,
-    catalog: Option<Catalog>,
-) -> Result<String, NoAnswer> {
+fn version_text(alloc: Global, count: usize, catalog: Option<Catalog>) -> Result<String, NoAnswer> {
     match catalog {
         Some(catalog) => {
             let catalog = last_catalog_text(alloc, catalog)?;

@@ -99,11 +99,13 @@ fn reply_line(alloc: Global, reply: Result<Vec<u8>, ReplyFault>) -> Result<Strin
         Ok(reply) => Ok(hex::encode(alloc, reply)?),
         Err(ReplyFault::BadJournal { index }) => Ok(format!(in alloc; "(BadJournal {index})")?),
         Err(ReplyFault::TooLarge { length }) => Ok(format!(in alloc; "(TooLarge {length})")?),
-        Err(ReplyFault::NoVersion {
-            version,
-            oldest,
-            newest,
-        }) => Ok(format!(in alloc; "(NoVersion {version} {oldest} {newest})")?),
+        Err(
+            ReplyFault::NoVersion {
+                version,
+                oldest,
+                newest,
+            },
+        ) => Ok(format!(in alloc; "(NoVersion {version} {oldest} {newest})")?),
         Err(ReplyFault::Memory) => Err(NoAnswer::Memory),
     }
 }
