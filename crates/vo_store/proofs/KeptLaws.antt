@@ -45,9 +45,6 @@ latest_more xs x =
     let long : d + (length (drop d whole) - max_earlier) ≡ length whole - max_earlier = omega (arith, length-drop d whole, length-append xs (x ∷ [])) in
     ap latest same ∙ drop-drop (length (drop d whole) - max_earlier) d whole ∙ ap (λ (n : ℕ). drop n whole) long
 
-pub all_kept : (xs : List KeptVersion) → length xs ≤ max_earlier → latest xs ≡ xs
-all_kept xs few = ap (λ (n : ℕ). drop n xs) (let e : length xs - max_earlier ≡ 0 = omega (arith, few) in e)
-
 pub first_batches_fit : (n : ℕ) (batches : List (List Command)) → AllByRecursion FitsBatch batches → AllByRecursion FitsBatch (take n batches)
 first_batches_fit n batches fit = each_left FitsBatch (take n batches) (drop n batches) (subst (AllByRecursion FitsBatch) (sym (take-append-drop n batches)) fit)
 
@@ -100,9 +97,6 @@ module _ (key : List ℕ) (batches : List (List Command)) (batch : List Command)
 -- What is kept.
 
 module _ (batches : List (List Command)) (s : StoreState) (h : IsHonestAfter batches s) where
-  pub earlier_few : length s.earlier ≤ max_earlier
-  earlier_few = omega (arith, h.earlier.count)
-
   module _ (installed : SignedRecord) (there : s.installed ≡ Some installed) where
     pub is_installed : IsRecordOf s.key batches installed
     is_installed = subst (IsInstalled s.key batches) there h.installed
