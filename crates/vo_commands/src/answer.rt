@@ -77,11 +77,13 @@ fn reply_report(
             let words = [Word::Phrase("too large"), Word::Number(length)];
             Err(Stop::Refused(refusal(alloc, Status::RefusedReply, &words)?))
         }
-        Err(ReplyFault::NoVersion {
-            version,
-            oldest,
-            newest,
-        }) => {
+        Err(
+            ReplyFault::NoVersion {
+                version,
+                oldest,
+                newest,
+            },
+        ) => {
             let report = version_refusal(alloc, version, oldest, newest)?;
             Err(Stop::Refused(report))
         }

@@ -39,16 +39,15 @@ fn push_summary(alloc: Global, out: &mut Vec<u8>, summary: &Summary) -> Result<(
     push_number(alloc, out, "answer rows", summary.answer_rows)?;
     push_number(alloc, out, "exact", summary.exact)?;
     let record = record_bytes(&summary.last);
-    push_words(alloc, out, &[Word::Phrase("last"), Word::Hexadecimal(&record)])
+    push_words(
+        alloc,
+        out,
+        &[Word::Phrase("last"), Word::Hexadecimal(&record)],
+    )
 }
 
 /// A line of a name and a number.
-fn push_number(
-    alloc: Global,
-    out: &mut Vec<u8>,
-    name: &str,
-    number: u64,
-) -> Result<(), AllocError>
+fn push_number(alloc: Global, out: &mut Vec<u8>, name: &str, number: u64) -> Result<(), AllocError>
     ensures { OnOk result (out.new.items ≡ out.old.items ++ number_line name.now number) }
 {
     push_words(alloc, out, &[Word::Phrase(name), Word::Number(number)])
