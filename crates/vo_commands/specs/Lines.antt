@@ -30,8 +30,8 @@ use Rattle.sql_text.specs.declared.faults.SqlFault.TheVariants as sql
 use Rattle.lms_forge.specs.declared.explanation.Explanation.{Explanation}
 use Rattle.lms_forge.specs.declared.explanation.Explanation.TheVariants as explanation
 use Rattle.vo_spec.specs.Records.{record_bytes}
-use Rattle.workload_run.specs.declared.summary.Summary.{Summary}
-use Rattle.workload_run.specs.Workloads.{workload_summary}
+use Rattle.workload_run.specs.declared.running.Summary.{Summary}
+use Rattle.workload_run.specs.Running.{workload_summary}
 use Rattle.vo_spec.specs.Replies.{Reply}
 use Rattle.vo_spec.specs.Results.{ref_title}
 
