@@ -46,7 +46,6 @@ refused view to (fault.NoVersion version oldest newest) due result is g memory h
 refused view to fault.NothingProposed due result is g memory h = same_answer result _ _ (ap (λ (a : KindAndBody). Some a) (sym is ∙ sym (ap to g))) h
 refused view to (fault.WrongRecord want got) due result is g memory h = same_answer result _ _ (ap (λ (a : KindAndBody). Some a) (sym is ∙ sym (ap to g))) h
 refused view to fault.BadSignature due result is g memory h = same_answer result _ _ (ap (λ (a : KindAndBody). Some a) (sym is ∙ sym (ap to g))) h
-refused view to (fault.NoVersion version oldest newest) due result is g memory h = same_answer result _ _ (ap (λ (a : KindAndBody). Some a) (sym is ∙ sym (ap to g))) h
 refused view to (fault.Command index because proofs) due result is g memory h = same_answer result _ _ (ap (λ (a : KindAndBody). Some a) (sym is ∙ sym (ap to g))) h
 
 -- the store stays where it refused
@@ -61,7 +60,6 @@ stayed view after (fault.NoVersion version oldest newest) due result old new g m
 stayed view after fault.NothingProposed due result old new g memory same = on_ok result (same ∙ sym (ap (store_after after old) g))
 stayed view after (fault.WrongRecord want got) due result old new g memory same = on_ok result (same ∙ sym (ap (store_after after old) g))
 stayed view after fault.BadSignature due result old new g memory same = on_ok result (same ∙ sym (ap (store_after after old) g))
-stayed view after (fault.NoVersion version oldest newest) due result old new g memory same = on_ok result (same ∙ sym (ap (store_after after old) g))
 stayed view after (fault.Command index because proofs) due result old new g memory same = on_ok result (same ∙ sym (ap (store_after after old) g))
 
 -- what is so of the store after an answer
@@ -101,7 +99,6 @@ refuses_all (fault.NoVersion version oldest newest) other = refl
 refuses_all fault.NothingProposed other = refl
 refuses_all (fault.WrongRecord want got) other = refl
 refuses_all fault.BadSignature other = refl
-refuses_all (fault.NoVersion version oldest newest) other = refl
 refuses_all fault.Memory other = refl
 refuses_all (fault.Command index because proofs) other = absurd (other index because proofs refl)
 
