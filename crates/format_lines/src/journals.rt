@@ -1,8 +1,9 @@
 //! Calls of journals.
-ghost use Rattle.std.specs.Prelude.{IfOk};
+ghost use Rattle.std.specs.Prelude.{IfOk, IfSome};
 ghost use Rattle.std.specs.List.{AllByRecursion};
 ghost use Rattle.vo_spec.specs.Batches.{FitsBatch};
 ghost use Rattle.vo_spec.specs.Journals.{FitsEntry};
+ghost use Rattle.vo_spec.specs.Records.{FitsCatalog};
 ghost use Rattle.owner_state.specs.Sealing.{FitEach};
 
 use crate::arguments::number_of;
@@ -189,7 +190,9 @@ fn owned_text(alloc: Global, owned: &OwnedJournal<'_>) -> Result<String, NoAnswe
 }
 
 /// How many entries there are, and the catalog of a version, if they have that.
-fn version_text(alloc: Global, count: usize, catalog: Option<Catalog>) -> Result<String, NoAnswer> {
+fn version_text(alloc: Global, count: usize, catalog: Option<Catalog>) -> Result<String, NoAnswer>
+    requires { IfSome catalog FitsCatalog }
+{
     match catalog {
         Some(catalog) => {
             let catalog = last_catalog_text(alloc, catalog)?;
