@@ -44,7 +44,7 @@ u16_size n = refl
 sum_below : (x y : ℕ) → add32 x y < 2 ^ 32
 sum_below x y = omega arith
 
-word_below : (key : List ℕ) (place : ℕ) → word_of key place < 2 ^ 32
+pub word_below : (key : List ℕ) (place : ℕ) → word_of key place < 2 ^ 32
 unfolding word_of block_word
 word_below key place = sum_below _ _
 
@@ -66,7 +66,7 @@ text_from : (s : List ℕ) → length s ≤ max_text → is_utf8 s ≡ true → 
     → IsTrue (is_text s)
 text_from s len utf8 plain = rw (le-leb (length s) max_text len, utf8, plain) refl
 
-label_length : (w : ℕ) → w < 2 ^ 32 → length (decimal w) ≤ 10
+pub label_length : (w : ℕ) → w < 2 ^ 32 → length (decimal w) ≤ 10
 label_length w lt = length-decimal-le 10 w (omega arith) (omega arith) (omega arith)
 
 label_fits : (w : ℕ) → w < 2 ^ 32 → IsTrue (is_text (codes "n" ++ decimal w))
@@ -83,13 +83,13 @@ record Small (c : Command) : Type 0 where
   fits : FitsCommand c
   size : length (command_bytes c) ≤ 64
 
-number_size : (n : ℕ) → length (value_bytes (number n)) ≡ 9
+pub number_size : (n : ℕ) → length (value_bytes (number n)) ≡ 9
 number_size n = omega (arith, u64_size (cast_unsigned w64 (pos n)))
 
 string_size : (s : List ℕ) → length (string s) ≡ 2 + length s
 string_size s = omega (arith, u16_size (length s), length-append (u16_bytes (length s)) s)
 
-label_size : (w : ℕ) → length (value_bytes (Text (codes "n" ++ decimal w))) ≡ 4 + length (decimal w)
+pub label_size : (w : ℕ) → length (value_bytes (Text (codes "n" ++ decimal w))) ≡ 4 + length (decimal w)
 label_size w = omega (arith, string_size (codes "n" ++ decimal w))
 
 three : (a b c : List ℕ) → length (a ++ (b ++ (c ++ []))) ≡ length a + length b + length c
@@ -155,7 +155,7 @@ step_small key keys i some most =
 
 -- Batches.
 
-each_of : {X : Type 0} (P : X → Type 0) (f : ℕ → X) → ((i : ℕ) → P (f i)) → (a n : ℕ)
+pub each_of : {X : Type 0} (P : X → Type 0) (f : ℕ → X) → ((i : ℕ) → P (f i)) → (a n : ℕ)
     → AllByRecursion P (map f (range_with_len a n))
 each_of P f all a zero = tt
 each_of P f all a (suc n) = (all a, each_of P f all (a + 1) n)

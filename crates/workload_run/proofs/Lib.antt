@@ -1,0 +1,13 @@
+pub mod AnswerLaws
+pub mod AskLaws
+pub mod CommitLaws
+pub mod CountLaws
+pub mod OwnerSteps
+pub mod ReaderLaws
+pub mod Readings
+pub mod ReplyFits
+pub mod ReplySizes
+pub mod RunLaws
+pub mod Sealing
+pub mod StandLaws
+pub mod StoreSteps

@@ -1,0 +1,3 @@
+pub mod Parties
+pub mod Readers
+pub mod Running
