@@ -23,20 +23,32 @@ pub fn owner_refusal(alloc: Global, fault: OwnerFault) -> NoStep
             told(RefusalCause::Command, command_refusal(alloc, index, fault))
         }
         OwnerFault::ProofForm { index } => {
-            told(RefusalCause::Proofs, proof_refusal(alloc, "form", index, &[]))
+            told(
+                RefusalCause::Proofs,
+                proof_refusal(alloc, "form", index, &[]),
+            )
         }
         OwnerFault::ProofRoot { index, want, got } => {
             let digests = [
                 Word::Hexadecimal(want.as_bytes()),
                 Word::Hexadecimal(got.as_bytes()),
             ];
-            told(RefusalCause::Proofs, proof_refusal(alloc, "root", index, &digests))
+            told(
+                RefusalCause::Proofs,
+                proof_refusal(alloc, "root", index, &digests),
+            )
         }
         OwnerFault::ProofMissing { index } => {
-            told(RefusalCause::Proofs, proof_refusal(alloc, "missing", index, &[]))
+            told(
+                RefusalCause::Proofs,
+                proof_refusal(alloc, "missing", index, &[]),
+            )
         }
         OwnerFault::ProofSurplus { index } => {
-            told(RefusalCause::Proofs, proof_refusal(alloc, "surplus", index, &[]))
+            told(
+                RefusalCause::Proofs,
+                proof_refusal(alloc, "surplus", index, &[]),
+            )
         }
         OwnerFault::KeySpent => told(RefusalCause::Command, spent_key(alloc)),
         OwnerFault::Memory => NoStep::Memory,
