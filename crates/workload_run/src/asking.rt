@@ -30,6 +30,7 @@ pub(crate) struct Counts {
     pub exact: u64,
 }
 
+/// How many rows an outcome has; one that is wrong has none.
 fn count_rows(outcome: &Outcome) -> u64
     ensures { result ≡ length (rows_of outcome.now) }
 {
@@ -39,6 +40,7 @@ fn count_rows(outcome: &Outcome) -> u64
     }
 }
 
+/// Asks the store, has the client check the reply, and the auditor judge it.
 fn ask(
     alloc: Global,
     parties: &Parties,

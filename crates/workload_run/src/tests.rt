@@ -30,3 +30,10 @@ fn some_steps(rt: HostRuntime) -> Result<(), Fail> {
     assert!(rt; summary.last.catalog.as_bytes()[..4] == [0x2c, 0xd0, 0x44, 0x82]);
     Ok(())
 }
+
+#[test]
+fn many_batches(rt: HostRuntime) -> Result<(), Fail> {
+    let summary = run_workload(rt.alloc(), 1000, 3)?;
+    assert!(rt; numbers(&summary) == [1001, 11, 711, 16, 107, 16]);
+    Ok(())
+}
