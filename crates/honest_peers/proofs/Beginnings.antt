@@ -19,7 +19,7 @@ use Rattle.root_laws.proofs.BatchSteps.{accepted_roots}
 use Rattle.root_laws.proofs.Representation.{read_honestly}
 use Rattle.round_trips.proofs.Entries.{sealable_first}
 use Rattle.owner_state.proofs.OwnerSteps.{step_made}
-use Rattle.honest_peers.proofs.Sealing.{made_entry}
+use Rattle.workload_run.proofs.Sealing.{made_entry}
 use Rattle.std.specs.List.{AllByRecursion}
 use Rattle.vo_spec.specs.Honest.{Stored, honest_proofs, honest_record, honest_trees, seal_batches, sealed_entry, work_all}
 use Rattle.vo_spec.specs.Journals.{FitsEntry, batches_of}

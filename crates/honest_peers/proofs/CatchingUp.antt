@@ -28,7 +28,7 @@ use Rattle.owner_session.specs.Work.{deliveries, delivery, installation, proposa
 use Rattle.vo_commands.specs.Committing.{entry_forms}
 use Rattle.honest_peers.specs.Owning.{IsStoreAfter}
 use Rattle.honest_peers.proofs.Requests.{installs_entry, proposes_batch}
-use Rattle.honest_peers.proofs.StoreSteps.{IsProposed, IsRefused, StoreLaws, first_taken, install_keeps, propose}
+use Rattle.workload_run.proofs.StoreSteps.{IsProposed, IsRefused, StoreLaws, first_taken, install_keeps, propose}
 use Rattle.honest_peers.proofs.Trading.{Deeds, OwnInput, OwnWork, Runs, input_with}
 
 pub made_of : {X : Type 0} (r : Result X StoreFault) → IsOk r → (x : X) × (r ≡ Ok x)

@@ -40,8 +40,9 @@ use Rattle.vo_commands.specs.Lines.{command_output, spent_key}
 use Rattle.honest_peers.specs.Owning.{ComeTo, EndsPlainly, IsOwnerAfter, IsStoreAfter, refused_with}
 use Rattle.honest_peers.proofs.CatchingUp.{IsAt, proofs_short, takes_next}
 use Rattle.honest_peers.proofs.Requests.{installs_entry, proposes_batch, proposes_in_vain}
-use Rattle.honest_peers.proofs.Sealing.{IsGood, judged, made_entry, refused_short, sealable_more, sealed_good, sealed_parts}
-use Rattle.honest_peers.proofs.StoreSteps.{IsProposed, IsRefused, StoreLaws, propose}
+use Rattle.honest_peers.proofs.Sealing.{IsGood, judged, refused_short, sealed_good, sealed_parts}
+use Rattle.workload_run.proofs.Sealing.{made_entry, sealable_more}
+use Rattle.workload_run.proofs.StoreSteps.{IsProposed, IsRefused, StoreLaws, propose}
 use Rattle.honest_peers.proofs.Trading.{Deeds, OwnInput, OwnWork, Runs, input_with}
 
 -- The owner makes the first of what it is said to make.

@@ -18,7 +18,7 @@ use Rattle.owner_roots.specs.Owners.{IsBadAt, IsOwned, OwnedAuditOf}
 use Rattle.held_replies.proofs.AcceptedRecords.{of_no_fault}
 use Rattle.honest_peers.proofs.AskLaws.{one_check}
 use Rattle.honest_peers.proofs.OneVerdict.{answer_is}
-use Rattle.honest_peers.proofs.Readings.{never_bad, one_owned}
+use Rattle.workload_run.proofs.Readings.{never_bad, one_owned}
 use Rattle.honest_peers.specs.Accepting.{AcceptsReply, IsJudged}
 
 -- No version is below the least one of all.

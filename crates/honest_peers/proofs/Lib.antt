@@ -2,7 +2,6 @@ pub mod AskLaws
 pub mod LoadedLaws
 pub mod Trading
 pub mod ServedConnections
-pub mod StoreSteps
 pub mod Requests
 pub mod CatchingUp
 pub mod Standings
@@ -13,8 +12,6 @@ pub mod Sessions
 pub mod Beginnings
 pub mod OwnRuns
 pub mod Reopenings
-pub mod Readings
-pub mod AnswerLaws
 pub mod OwnedSteps
 pub mod OneVerdict
 pub mod Judged

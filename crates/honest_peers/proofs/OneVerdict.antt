@@ -22,7 +22,7 @@ use Rattle.owner_state.proofs.EntryLaws.{slot_again}
 use Rattle.owner_state.proofs.SlotLaws.{begins_front}
 use Rattle.honest_peers.specs.Accepting.{SaysSame}
 use Rattle.honest_peers.proofs.AskLaws.{one_check}
-use Rattle.honest_peers.proofs.Readings.{never_bad, one_owned}
+use Rattle.workload_run.proofs.Readings.{never_bad, one_owned}
 use Rattle.vo_commands.proofs.OwnerAudits.{one_reply}
 
 -- Of two lists of entries in front of bytes the longer one holds the other.

@@ -36,35 +36,6 @@ use Rattle.owner_session.specs.Work.{Judgement, Refuses}
 use Rattle.vo_commands.specs.Committing.{IsJudgement, judgement_of}
 use Rattle.vo_commands.specs.Lines.{spent_key}
 
--- Batches.
-
-accepted_more : (earlier batches : List (List Command)) (batch : List Command)
-    → AreAcceptedAfter earlier batches
-    → IsOk (apply_batch batch (tables_after (earlier ++ batches)))
-    → AreAcceptedAfter earlier (batches ++ batch ∷ [])
-accepted_more earlier [] batch all ok = (
-  subst (λ (bs : List (List Command)). IsOk (apply_batch batch (tables_after bs)))
-      (append-nil earlier) ok,
-  tt,
-)
-accepted_more earlier (b ∷ batches) batch all ok = (
-  all.0,
-  accepted_more (earlier ++ b ∷ []) batches batch all.1
-      (subst (λ (bs : List (List Command)). IsOk (apply_batch batch (tables_after bs)))
-      (sym (append_assoc earlier (b ∷ []) batches)) ok),
-)
-
-pub sealable_more : (secret : Secret) (batches : List (List Command)) (batch : List Command)
-    → AreSealable secret batches → FitsBatch batch
-    → IsOk (apply_batch batch (tables_after batches)) → length batches + 1 < secret_leaves secret
-    → AreSealable secret (batches ++ batch ∷ [])
-sealable_more secret batches batch all fits ok left = record {
-  signs = all.signs;
-  fit = each_both FitsBatch batches (batch ∷ []) all.fit (fits, tt);
-  accepted = accepted_more [] batches batch all.accepted ok;
-  few = omega (arith, left, length-append batches (batch ∷ []));
-}
-
 each_last : {A : Type 0} (P : A → Type 0) (xs : List A) (y : A) → AllByRecursion P (xs ++ y ∷ [])
     → P y
 each_last P [] y all = all.0
@@ -92,32 +63,6 @@ sealed_good secret batches batch all =
     }
 
 -- The entry of honest roots.
-
-abbrev entry_with : Secret → List Command → List ℕ → ℕ → List Stored → Entry
-entry_with secret batch proofs version trees = record {
-  batch = record { commands = batch };
-  proofs = proofs;
-  rec = honest_record (public_of_secret secret) version trees;
-  signature =
-      lms_signature secret version
-      (record_bytes (honest_record (public_of_secret secret) version trees));
-}
-
-pub made_entry : (secret : Secret) (batches : List (List Command)) (batch : List Command)
-    (tables : List Stored) → tables ≡ honest_trees batches
-    → signed_entry secret (honest_roots (length batches + 1) (honest_trees (batches ++ batch ∷ [])))
-    batch (proofs_bytes (honest_proofs batch tables)) ≡ sealed_entry secret ([] ∷ batches) batch
-unfolding signed_entry sealed_entry record_of_roots honest_record
-made_entry secret batches batch tables same =
-    let number : length batches + 1 ≡ length ([] ∷ batches) = omega arith in
-    ap (λ (ss : List Stored). entry_with secret batch (proofs_bytes (honest_proofs batch ss))
-    (length batches + 1) (honest_trees (batches ++ batch ∷ [])))
-    (same ∙ sym (no_trees_before batches))
-    ∙ ap (λ (n : ℕ). entry_with secret batch
-    (proofs_bytes (honest_proofs batch (honest_trees ([] ∷ batches)))) n
-    (honest_trees (batches ++ batch ∷ []))) number
-    ∙ ap (entry_with secret batch (proofs_bytes (honest_proofs batch (honest_trees ([] ∷ batches))))
-    (length ([] ∷ batches))) (sym (no_trees_before (batches ++ batch ∷ [])))
 
 pub sealed_parts : (secret : Secret) (batches : List (List Command)) (batch : List Command)
     → let e = sealed_entry secret ([] ∷ batches) batch in

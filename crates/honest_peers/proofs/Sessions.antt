@@ -14,7 +14,7 @@ use Rattle.vo_commands.specs.Committing.{entry_forms}
 use Rattle.honest_peers.specs.Owning.{EndsPlainly, IsOwnerAfter, IsStoreWithin}
 use Rattle.honest_peers.proofs.Commits.{commits_end}
 use Rattle.honest_peers.proofs.Standings.{catches_up}
-use Rattle.honest_peers.proofs.StoreSteps.{StoreLaws}
+use Rattle.workload_run.proofs.StoreSteps.{StoreLaws}
 use Rattle.honest_peers.proofs.Trading.{Deeds, OwnInput, Runs, input_with}
 
 pub session_ends : (secret : Secret) (laws : StoreLaws) (later : StoreState) (ending : Ending)

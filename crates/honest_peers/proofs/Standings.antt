@@ -30,7 +30,7 @@ use Rattle.owner_session.specs.Work.{catch_up, deliveries, standing, with_place}
 use Rattle.vo_commands.specs.Committing.{entry_forms, place_beside, place_by, place_if_read, place_of_record}
 use Rattle.honest_peers.specs.Owning.{IsStoreAfter}
 use Rattle.honest_peers.proofs.Requests.{behind_status, record_long, status_reply}
-use Rattle.honest_peers.proofs.StoreSteps.{StoreLaws, same_records}
+use Rattle.workload_run.proofs.StoreSteps.{StoreLaws, same_records}
 use Rattle.honest_peers.proofs.CatchingUp.{GoesOn, IsAt, deliver_first, deliver_rest, version_at}
 use Rattle.honest_peers.proofs.Trading.{Deeds, OwnInput, OwnWork, Runs, input_with, traded}
 

@@ -20,7 +20,7 @@ use Rattle.honest_peers.specs.Accepting.{IsJudged}
 use Rattle.honest_peers.specs.Crashes.{HoldsEach}
 use Rattle.honest_peers.proofs.Judged.{accepts_reply, judged}
 use Rattle.honest_peers.proofs.OwnedSteps.{journal_owned}
-use Rattle.honest_peers.proofs.Readings.{one_owned}
+use Rattle.workload_run.proofs.Readings.{one_owned}
 use Rattle.honest_peers.proofs.HeldLaws.{each, one_held, one_of}
 use Rattle.vo_world.specs.declared.events.AcceptedReply.{AcceptedReply}
 use Rattle.vo_world.specs.declared.events.Event.{Event}

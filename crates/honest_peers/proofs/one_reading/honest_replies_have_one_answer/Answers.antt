@@ -1,4 +1,4 @@
-use Rattle.honest_peers.proofs.AnswerLaws.{audited, checked}
+use Rattle.workload_run.proofs.AnswerLaws.{audited, checked}
 use Rattle.honest_peers.proofs.one_reading.honest_replies_have_one_answer.Goals as goal
 
 pub returns : goal.returns

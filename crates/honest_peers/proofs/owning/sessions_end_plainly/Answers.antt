@@ -2,7 +2,7 @@ use Rattle.owner_session.specs.Work.{session}
 use Rattle.vo_commands.specs.Committing.{entry_forms}
 use Rattle.honest_peers.proofs.ServedConnections.{served_answers}
 use Rattle.honest_peers.proofs.Sessions.{session_ends}
-use Rattle.honest_peers.proofs.StoreSteps.{StoreLaws}
+use Rattle.workload_run.proofs.StoreSteps.{StoreLaws}
 use Rattle.honest_peers.proofs.owning.sessions_end_plainly.Goals as goal
 
 pub returns : goal.returns
@@ -10,6 +10,7 @@ returns c = λ secret batches held es new s later input ending own within fit se
     let keeps = c.stores_stay_honest.ensures in
     let follow = c.owners_follow_stores.ensures in
     let laws : StoreLaws = record {
+      new = keeps.new;
       proposed = keeps.proposed;
       refused = keeps.refused;
       first = keeps.first;

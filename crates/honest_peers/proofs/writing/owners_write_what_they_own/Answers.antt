@@ -1,7 +1,7 @@
 use Rattle.vo_spec.specs.Secret.{public_of_secret}
 use Rattle.owner_state.proofs.OwnerSteps.{one_step}
 use Rattle.honest_peers.proofs.OwnedSteps.{journal_owned, written_owned}
-use Rattle.honest_peers.proofs.Readings.{never_bad}
+use Rattle.workload_run.proofs.Readings.{never_bad}
 use Rattle.honest_peers.proofs.writing.owners_write_what_they_own.Goals as goal
 
 pub returns : goal.returns
