@@ -3,6 +3,7 @@ import os
 import subprocess
 
 from comparisons import workspace
+from comparisons.listening import address_told
 from comparisons.workspace import SEED, TOP
 from reference.formats import batch_bytes, read_entries
 from reference.generators.folders import write_files
@@ -91,9 +92,8 @@ def is_met_by_store(folder, journal, sent, number):
     environment, mark = refusing(folder, number)
     words = [PROGRAM, "serve", "127.0.0.1:0", "filled_key", journal, "1"]
     with subprocess.Popen(words, cwd=folder, env=environment, stdout=subprocess.DEVNULL, stderr=subprocess.PIPE) as store:
-        listening = store.stderr.readline().decode().split(",")[0].split()
-        if listening:
-            Loopback.exchanged(int(listening[-1].split(":")[1]), sent)
+        if address := address_told(store):
+            Loopback.exchanged(int(address.split(":")[1]), sent)
         store.communicate()
     return not os.path.exists(mark)
 

@@ -12,6 +12,7 @@ import threading
 import time
 
 from comparisons import workspace
+from comparisons.listening import address_told
 from reference.wire import frame
 
 PATIENCE = 30  # seconds for which the program lets nothing move
@@ -66,7 +67,7 @@ class Mirror:
     def __init__(self, folder, count):
         words = [folder.program, "serve", "127.0.0.1:0", "key", "journal", str(count)]
         self.process = subprocess.Popen(words, cwd=folder.path, stdout=subprocess.PIPE, stderr=subprocess.PIPE)
-        self.address = self.process.stderr.readline().decode().split()[-1]
+        self.address = address_told(self.process)
         # nobody else reads what it says
         threading.Thread(target=self.process.stderr.read, daemon=True).start()
 
@@ -199,7 +200,7 @@ def rows(program):
     def run(name, row):
         try:
             seen.append((name, *row()))
-        except (OSError, IndexError, subprocess.SubprocessError) as error:
+        except Exception as error:  # whatever it is, the row isn't passed over
             seen.append((name, "no error", error))
 
     with tempfile.TemporaryDirectory() as path:
