@@ -1,5 +1,5 @@
 -- Commands and batches as bytes.
-use Rattle.std.specs.Prelude.{◌≡◌, ℕ, ◌≤◌, List, [], ◌∷◌, ◌++◌, length}
+use Rattle.std.specs.Prelude.{◌≡◌, ℕ, ◌+◌, ◌≤◌, if◌then◌else◌, List, [], ◌∷◌, ◌++◌, length}
 use Rattle.std.specs.List.{flat_map, AllByRecursion}
 use Rattle.vo_spec.specs.declared.tables.Column.{Column}
 use Rattle.vo_spec.specs.declared.tables.SetPart.{SetPart}
@@ -26,8 +26,12 @@ max_columns = 32
 abbrev pub list_bytes : {A : Type 0} → (A → List ℕ) → List A → List ℕ
 list_bytes bytes items = length items ∷ flat_map bytes items
 
+-- a column's kind, with the highest bit set where the column is nullable
+abbrev pub column_type : Column → ℕ
+column_type c = if c.nullable then 128 + type_byte c.kind else type_byte c.kind
+
 abbrev pub column_bytes : Column → List ℕ
-column_bytes c = short_string c.name ++ type_byte c.kind ∷ []
+column_bytes c = short_string c.name ++ column_type c ∷ []
 
 abbrev pub set_bytes : SetPart → List ℕ
 set_bytes s = short_string s.column ++ value_bytes s.value

@@ -19,8 +19,8 @@ use Rattle.vo_spec.specs.declared.checks.Answer.{Answer}
 use Rattle.vo_spec.specs.declared.checks.CheckFault.{CheckFault}
 use Rattle.vo_spec.specs.declared.checks.CheckFault.TheVariants.{TooLong, BadForm, WrongKey, WrongLeaf, BadSignature, Stale, WrongCatalog, WrongTrees, WrongShape, WrongRoot, Missing, Surplus}
 use Rattle.vo_spec.specs.Firsts.{first_some, unless}
-use Rattle.vo_spec.specs.Values.{kind_of, same_kind, is_text}
-use Rattle.vo_spec.specs.Tables.{column_at, max_key}
+use Rattle.vo_spec.specs.Values.{is_of_kind, is_text}
+use Rattle.vo_spec.specs.Tables.{column_at, allows, max_key}
 use Rattle.vo_spec.specs.Results.{bound_sources, binding_fault, header, outcome, answer_rows}
 use Rattle.vo_spec.specs.Conditions.{Query}
 use Rattle.vo_spec.specs.Keys.{key_id, leaf_of, lms_valid}
@@ -32,7 +32,7 @@ use Rattle.vo_spec.specs.Pruning.{is_missing, has_surplus}
 use Rattle.vo_spec.specs.Needs.{tables_used, needs, seen_lefts, seen_rights}
 
 -- The shape of a tree: the keys of its leaves are keys of the schema, its rows have the schema's
--- cells, and the cells that are shown are of their columns' kinds.
+-- cells, and the cells that are shown are of their columns' kinds, NULL in nullable columns alone.
 
 -- the bytes of a key of this kind
 abbrev pub is_key_of : Kind → List ℕ → Bool
@@ -43,14 +43,14 @@ is_key_of kind.Bool key = false
 abbrev pub key_kind : Schema → Kind
 key_kind schema = (column_at schema.columns schema.key).kind
 
-abbrev pub shows_kind : Kind → Cell → Bool
-shows_kind k (Shown value) = same_kind k (kind_of value)
-shows_kind k (Hidden digest) = true
+abbrev pub cell_fits : Column → Cell → Bool
+cell_fits c (Shown value) = is_of_kind c.kind value && allows c value
+cell_fits c (Hidden digest) = true
 
--- a cell for each column, those that are shown of its kind
+-- a cell for each column, those that are shown of what it may have
 abbrev pub cells_fit : List Column → List Cell → Bool
 cells_fit [] [] = true
-cells_fit (c ∷ columns) (cell ∷ cells) = shows_kind c.kind cell && cells_fit columns cells
+cells_fit (c ∷ columns) (cell ∷ cells) = cell_fits c cell && cells_fit columns cells
 cells_fit _ _ = false
 
 abbrev pub row_fits : Schema → RowPart → Bool

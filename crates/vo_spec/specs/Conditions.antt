@@ -1,5 +1,5 @@
 -- Conditions, and when a row meets one.
-use Rattle.std.specs.Prelude.{Bool, true, false, not, ◌&&◌, ◌||◌, List, [], ◌∷◌, ◌++◌, Option, Some, None, option_map}
+use Rattle.std.specs.Prelude.{Bool, true, false, not, ◌&&◌, ◌||◌, List, [], ◌∷◌, ◌++◌, Option, Some, None, option_map, if◌then◌else◌, unwrap_or}
 use Rattle.std.specs.Option.{option_map_or}
 use Rattle.std.specs.List.{AllByRecursion}
 use Rattle.std.specs.declared.cmp.Ordering.{Ordering}
@@ -16,7 +16,34 @@ use Rattle.vo_spec.specs.declared.queries.Items.{Items}
 use Rattle.vo_spec.specs.declared.queries.Source.{Source}
 use Rattle.vo_spec.specs.declared.queries.Join.{Join}
 use Rattle.vo_spec.specs.declared.queries.QueryText.{QueryText}
-use Rattle.vo_spec.specs.Values.{value_cmp, IsInRange}
+use Rattle.vo_spec.specs.Values.{is_null, value_cmp, IsInRange}
+
+-- Truth has three values: true, false, and unknown, which is None.
+
+abbrev pub Truth : Type 0
+Truth = Option Bool
+
+-- what is kept by WHERE and ON: neither the false nor the unknown
+abbrev pub is_true : Truth → Bool
+is_true t = unwrap_or t false
+
+-- false where one of them is, else unknown where one of them is
+abbrev pub both : Truth → Truth → Truth
+both (Some true) b = b
+both (Some false) b = Some false
+both None (Some false) = Some false
+both None b = None
+
+-- true where one of them is, else unknown where one of them is
+abbrev pub either : Truth → Truth → Truth
+either (Some true) b = Some true
+either (Some false) b = b
+either None (Some true) = Some true
+either None b = None
+
+-- true and false exchanged, unknown kept
+abbrev pub opposite : Truth → Truth
+opposite = option_map not
 
 -- A formula over tests of any kind: every part holds, some part holds, the part doesn't hold, or a
 -- test.
@@ -32,21 +59,21 @@ mutual
     more : Formula T → Formulas T → Formulas T
 
 module _ {T : Type 0} where
-  -- whether it is true, by what is true of a test
+  -- its truth, by that of a test
   abbrev mutual
-    pub truth_by : (T → Bool) → Formula T → Bool
-    truth_by holds (every fs) = all_true_by holds fs
-    truth_by holds (some fs) = any_true_by holds fs
-    truth_by holds (negated f) = not (truth_by holds f)
-    truth_by holds (test t) = holds t
+    pub truth_by : (T → Truth) → Formula T → Truth
+    truth_by of_test (every fs) = truth_of_all of_test fs
+    truth_by of_test (some fs) = truth_of_any of_test fs
+    truth_by of_test (negated f) = opposite (truth_by of_test f)
+    truth_by of_test (test t) = of_test t
 
-    pub all_true_by : (T → Bool) → Formulas T → Bool
-    all_true_by holds none = true
-    all_true_by holds (more f fs) = truth_by holds f && all_true_by holds fs
+    pub truth_of_all : (T → Truth) → Formulas T → Truth
+    truth_of_all of_test none = Some true
+    truth_of_all of_test (more f fs) = both (truth_by of_test f) (truth_of_all of_test fs)
 
-    pub any_true_by : (T → Bool) → Formulas T → Bool
-    any_true_by holds none = false
-    any_true_by holds (more f fs) = truth_by holds f || any_true_by holds fs
+    pub truth_of_any : (T → Truth) → Formulas T → Truth
+    truth_of_any of_test none = Some false
+    truth_of_any of_test (more f fs) = either (truth_by of_test f) (truth_of_any of_test fs)
 
   -- what its tests have, in the order of the text
   abbrev mutual
@@ -72,10 +99,11 @@ module _ {T : Type 0} where
     with_tests_in change none = none
     with_tests_in change (more f fs) = more (with_tests change f) (with_tests_in change fs)
 
--- A test of a row: a column's value compared with another or with a literal. R is how a column is
--- written, O how the right side is.
+-- A test of a row: a column's value compared with another or with a literal, or whether it is NULL;
+-- for IS NOT NULL the flag is set. R is how a column is written, O how the right side is.
 pub data Test (R O : Type 0) : Type 0 where
   comparison : R → Cmp → O → Test R O
+  null_test : R → Bool → Test R O
 
 -- A condition, its columns by their names.
 
@@ -100,6 +128,7 @@ condition_layer (Cond-F.All parts) = every (conditions parts)
 condition_layer (Cond-F.Any parts) = some (conditions parts)
 condition_layer (Cond-F.Not part) = negated part.value
 condition_layer (Cond-F.Test left op right) = test (comparison left op right)
+condition_layer (Cond-F.IsNull left is_not) = test (null_test left is_not)
 
 abbrev pub condition_of : Cond → Condition
 condition_of = fold-Cond Condition condition_layer
@@ -127,6 +156,7 @@ operand_refs (Literal v) = []
 
 abbrev pub test_refs : NameTest → List Ref
 test_refs (comparison left op right) = left ∷ operand_refs right
+test_refs (null_test left is_not) = left ∷ []
 
 abbrev pub condition_refs : Condition → List Ref
 condition_refs = of_tests test_refs
@@ -134,6 +164,7 @@ condition_refs = of_tests test_refs
 -- the two sides of each comparison
 abbrev pub sides : NameTest → List (Ref × Operand)
 sides (comparison left op right) = (left, right) ∷ []
+sides (null_test left is_not) = []
 
 abbrev pub comparisons : Condition → List (Ref × Operand)
 comparisons = of_tests sides
@@ -152,18 +183,28 @@ abbrev pub operand_value : (Ref → Value) → Operand → Value
 operand_value row (Column r) = row r
 operand_value row (Literal v) = v
 
--- a row is what it has for each column, and so for the right side of a test
-abbrev pub test_truth : {R O : Type 0} → (R → Value) → (O → Value) → Test R O → Bool
-test_truth row operand (comparison left op right) =
-    compares op (value_cmp (row left) (operand right))
+-- unknown where one of the values is NULL
+abbrev pub comparison_truth : Cmp → Value → Value → Truth
+comparison_truth op a b =
+    if is_null a || is_null b then None else Some (compares op (value_cmp a b))
 
-abbrev pub truth : (Ref → Value) → Condition → Bool
+-- never unknown
+abbrev pub null_truth : Bool → Value → Truth
+null_truth is_not v = Some (if is_not then not (is_null v) else is_null v)
+
+-- a row is what it has for each column, and so for the right side of a test
+abbrev pub test_truth : {R O : Type 0} → (R → Value) → (O → Value) → Test R O → Truth
+test_truth row operand (comparison left op right) =
+    comparison_truth op (row left) (operand right)
+test_truth row operand (null_test left is_not) = null_truth is_not (row left)
+
+abbrev pub truth : (Ref → Value) → Condition → Truth
 truth row = truth_by (test_truth row (operand_value row))
 
 -- whether the row meets the condition, which may be absent
 abbrev pub is_met : (Ref → Value) → Option Condition → Bool
 is_met row None = true
-is_met row (Some c) = truth row c
+is_met row (Some c) = is_true (truth row c)
 
 -- The numbers that the query compares with are of 64 bits with a sign.
 

@@ -24,7 +24,7 @@ use Rattle.vo_spec.specs.Conditions.{Query}
 use Rattle.vo_spec.specs.Results.{bound_sources}
 use Rattle.vo_spec.specs.Keys.{key_id}
 use Rattle.vo_spec.specs.Secret.{Secret, public_of_secret, lms_signature}
-use Rattle.vo_spec.specs.Records.{record_bytes, catalog_digest, table_headers}
+use Rattle.vo_spec.specs.Records.{record_bytes, record_of, table_headers}
 use Rattle.vo_spec.specs.Journals.{batches_of}
 use Rattle.vo_spec.specs.Parts.{leaf, entries}
 use Rattle.vo_spec.specs.Trees.{RowTree, digest}
@@ -164,8 +164,7 @@ catalog_of stored = record {
 }
 
 unfoldable pub honest_record : List ℕ → ℕ → List Stored → Record
-honest_record key version stored =
-    record { id = key_id key; version = version; catalog = catalog_digest (catalog_of stored) }
+honest_record key version stored = record_of (key_id key) version (catalog_of stored)
 
 -- the entry that the owner writes of this batch, after the batches of this many versions from 0 on
 unfoldable pub sealed_entry : Secret → List (List Command) → List Command → Entry

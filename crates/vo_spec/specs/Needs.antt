@@ -17,9 +17,9 @@ use Rattle.vo_spec.specs.declared.queries.Operand.TheVariants.{Ref as Column_of,
 use Rattle.vo_spec.specs.declared.queries.Join.{Join}
 use Rattle.vo_spec.specs.declared.queries.Items.{Items}
 use Rattle.vo_spec.specs.declared.queries.Items.TheVariants.{All, Refs}
-use Rattle.vo_spec.specs.Values.{key_of, key_lt, value_of_key}
+use Rattle.vo_spec.specs.Values.{is_null, key_of, key_lt, value_of_key}
 use Rattle.vo_spec.specs.Tables.{column_at, cell_number, value_at}
-use Rattle.vo_spec.specs.Conditions.{Formula, Formulas, every, some, negated, test, none, more, NameTest, comparison, Condition, Conditions, condition_refs, truth, Query}
+use Rattle.vo_spec.specs.Conditions.{Formula, Formulas, every, some, negated, test, none, more, NameTest, comparison, null_test, Condition, Conditions, condition_refs, is_true, truth, Query}
 use Rattle.vo_spec.specs.Results.{BoundSource, ColumnPlace, bound_source_at, schema_at, place_of, join_places, query_refs, numbers_from, RowView, place_value, ref_value}
 use Rattle.vo_spec.specs.Parts.{leaf}
 use Rattle.vo_spec.specs.Trees.{RowTree}
@@ -38,6 +38,10 @@ keys_that cmp.Lt key = record { low = Absent; high = Exclusive key }
 keys_that cmp.Le key = record { low = Absent; high = Inclusive key }
 keys_that cmp.Gt key = record { low = Exclusive key; high = Absent }
 keys_that cmp.Ge key = record { low = Inclusive key; high = Absent }
+
+-- a comparison with NULL is true of no row, and bounds no interval
+abbrev pub keys_that_compare : Cmp → Value → Interval
+keys_that_compare op v = if is_null v then all_keys else keys_that op (key_of v)
 
 abbrev pub higher : Bound → Bound → Bound
 higher Absent b = b
@@ -79,7 +83,8 @@ is_left_key ss p = p.bound_source == 0 && p.column == (schema_at ss 0).key
 abbrev pub test_interval : List BoundSource → NameTest → Interval
 test_interval ss (comparison left op (Column_of r)) = all_keys
 test_interval ss (comparison left op (Literal v)) = if is_left_key ss (place_of ss left)
-    then keys_that op (key_of v) else all_keys
+    then keys_that_compare op v else all_keys
+test_interval ss (null_test left is_not) = all_keys
 
 abbrev pub interval_of : List BoundSource → Condition → Interval
 interval_of ss = interval_by (test_interval ss)
@@ -92,9 +97,9 @@ is_left ss c = list_all (λ r. (place_of ss r).bound_source == 0) (condition_ref
 abbrev mutual
   pub left_truth : List BoundSource → (Ref → Value) → Condition → Bool
   left_truth ss row (every cs) = left_truths ss row cs
-  left_truth ss row (some cs) = if is_left ss (some cs) then truth row (some cs) else true
-  left_truth ss row (negated c) = if is_left ss (negated c) then truth row (negated c) else true
-  left_truth ss row (test t) = if is_left ss (test t) then truth row (test t) else true
+  left_truth ss row (some cs) = if is_left ss (some cs) then is_true (truth row (some cs)) else true
+  left_truth ss row (negated c) = if is_left ss (negated c) then is_true (truth row (negated c)) else true
+  left_truth ss row (test t) = if is_left ss (test t) then is_true (truth row (test t)) else true
 
   pub left_truths : List BoundSource → (Ref → Value) → Conditions → Bool
   left_truths ss row none = true
@@ -145,6 +150,10 @@ left_need ss q left = uncut_need ss q
 abbrev pub join_value : List BoundSource → Join → RowView → Value
 join_value ss j left = place_value (left ∷ []) (join_places ss j).0
 
+-- NULL is equal to no key, so a left row that has it needs no right row
+abbrev pub has_join_value : List BoundSource → Join → RowView → Bool
+has_join_value ss j left = not (is_null (join_value ss j left))
+
 abbrev pub right_need : List BoundSource → Query → Join → RowView → Need
 right_need ss q j left = record {
   interval = keys_that cmp.Eq (key_of (join_value ss j left));
@@ -191,8 +200,8 @@ seen_rights ss q trees left = flat_map
     (option_to_list q.join)
 
 abbrev pub right_needs : List BoundSource → Query → List RowTree → List Need
-right_needs ss q trees = flat_map (λ j. map (right_need ss q j) (seen_lefts ss q trees))
-    (option_to_list q.join)
+right_needs ss q trees = flat_map (λ j. map (right_need ss q j)
+    (filter (has_join_value ss j) (seen_lefts ss q trees))) (option_to_list q.join)
 
 -- the needs of each tree, in the order of the trees
 abbrev pub needs : List BoundSource → Query → List RowTree → List (List Need)

@@ -1,12 +1,14 @@
 -- Catalogs and records as bytes: what an owner signs of its tables.
-use Rattle.std.specs.Prelude.{◌≡◌, ℕ, ◌+◌, ◌*◌, ◌<◌, ◌≤◌, ◌^◌, Bool, true, not, ◌&&◌, List, [], ◌∷◌, ◌++◌, map, length, flat_map, codes, IsTrue}
-use Rattle.std.specs.List.{AllByRecursion}
+use Rattle.std.specs.Prelude.{◌≡◌, ℕ, ◌+◌, ◌*◌, ◌<◌, ◌≤◌, ◌^◌, Bool, true, not, ◌&&◌, List, [], ◌∷◌, ◌++◌, map, length, flat_map, codes, if◌then◌else◌, IsTrue}
+use Rattle.std.specs.List.{AllByRecursion, list_any}
 use Rattle.sha2.specs.Sha256.{sha256}
 use Rattle.vo_spec.specs.declared.values.Kind.TheVariants as kind
 use Rattle.vo_spec.specs.declared.tables.Column.{Column}
 use Rattle.vo_spec.specs.declared.tables.Schema.{Schema}
 use Rattle.vo_spec.specs.declared.records.CatalogTable.{CatalogTable}
 use Rattle.vo_spec.specs.declared.records.Catalog.{Catalog}
+use Rattle.vo_spec.specs.declared.records.Magic.{Magic}
+use Rattle.vo_spec.specs.declared.records.Magic.TheVariants.{Vrec, Vrc2}
 use Rattle.vo_spec.specs.declared.records.Record.{Record}
 use Rattle.vo_spec.specs.Bytes.{u16_bytes, u64_bytes, short_string}
 use Rattle.vo_spec.specs.Values.{key_lt, same_kind}
@@ -35,12 +37,13 @@ max_catalog = 2 + max_tables * max_catalog_table
 unfoldable pub catalog_digest : Catalog → List ℕ
 catalog_digest c = sha256 (5 ∷ catalog_bytes c)
 
--- columns of different names, one of them the key, which is no BOOLEAN
+-- columns of different names, one of them the key, which is no BOOLEAN and not nullable
 pub record FitsSchema (s : Schema) : Type 0 where
   pub columns : FitCounted FitsColumn s.columns
   pub once : IsTrue (not (has_twice (map (λ (c : Column). c.name) s.columns)))
   pub key_in : s.key < length s.columns
   pub key_kind : IsTrue (not (same_kind (column_at s.columns s.key).kind kind.Bool))
+  pub key_given : IsTrue (not (column_at s.columns s.key).nullable)
 
 pub record FitsCatalogTable (t : CatalogTable) : Type 0 where
   pub name : FitsName t.name
@@ -75,11 +78,28 @@ no_tables = record { tables = [] }
 -- Records.
 
 -- what a record begins with
-abbrev pub magic : Record → List ℕ
-magic r = codes "VREC"
+abbrev pub magic_bytes : Magic → List ℕ
+magic_bytes Vrec = codes "VREC"
+magic_bytes Vrc2 = codes "VRC2"
+
+abbrev pub has_nullable : CatalogTable → Bool
+has_nullable t = list_any (λ (c : Column). c.nullable) t.schema.columns
+
+-- what the record of a catalog begins with: another word where some column is nullable
+abbrev pub magic_of : Catalog → Magic
+magic_of c = if list_any has_nullable c.tables then Vrc2 else Vrec
 
 unfoldable pub record_bytes : Record → List ℕ
-record_bytes r = magic r ++ r.id ++ u64_bytes r.version ++ r.catalog
+record_bytes r = magic_bytes r.magic ++ r.id ++ u64_bytes r.version ++ r.catalog
+
+-- the record of this version of a catalog, under this key's identifier
+abbrev pub record_of : List ℕ → ℕ → Catalog → Record
+record_of id version c = record {
+  magic = magic_of c;
+  id = id;
+  version = version;
+  catalog = catalog_digest c;
+}
 
 pub record FitsRecord (r : Record) : Type 0 where
   pub id : length r.id ≡ 16

@@ -5,7 +5,7 @@ use Rattle.vo_spec.specs.declared.records.Record.{Record}
 use Rattle.vo_spec.specs.declared.records.Catalog.{Catalog}
 use Rattle.vo_spec.specs.Bytes.{u16_bytes, block}
 use Rattle.vo_spec.specs.Batches.{max_commands}
-use Rattle.vo_spec.specs.Records.{FitsRecord, record_bytes, FitsCatalog, catalog_bytes}
+use Rattle.vo_spec.specs.Records.{FitsRecord, record_bytes, FitsCatalog, catalog_bytes, magic_of}
 use Rattle.vo_spec.specs.Journals.{max_signature, max_proofs}
 use Rattle.vo_spec.specs.Trees.{RowTree}
 use Rattle.vo_spec.specs.Fits.{FitsTree}
@@ -32,6 +32,7 @@ pub record FitsReply (r : Reply) : Type 0 where
   pub catalog : FitsCatalog r.catalog
   pub count : length r.trees < 256
   pub trees : AllByRecursion FitsTree r.trees
+  pub magic : r.rec.magic ≡ magic_of r.catalog
 
 -- The bytes are this reply.
 pub record IsReply (bytes : List ℕ) (r : Reply) : Type 0 where

@@ -2,7 +2,6 @@
 use Rattle.std.specs.Prelude.{ℕ, zero, suc, ◌+◌, Bool, true, not, ◌&&◌, ◌==◌, nat_lt, if◌then◌else◌, List, [], ◌∷◌, ◌++◌, map, length, slice_index_or, filter, flat_map, count_by, Option, Some, None, option_map, option_to_list, is_some, bytes_eq}
 use Rattle.std.specs.Option.{option_map_or}
 use Rattle.std.specs.List.{list_any, position_or_len}
-use Rattle.std.specs.Ordering.{is_eq}
 use Rattle.vo_spec.specs.declared.values.Kind.{Kind}
 use Rattle.vo_spec.specs.declared.values.Value.{Value}
 use Rattle.vo_spec.specs.declared.values.Row.{Row}
@@ -13,6 +12,7 @@ use Rattle.vo_spec.specs.declared.queries.Source.{Source}
 use Rattle.vo_spec.specs.declared.queries.Join.{Join}
 use Rattle.vo_spec.specs.declared.queries.Items.{Items}
 use Rattle.vo_spec.specs.declared.queries.Items.TheVariants.{All, Refs}
+use Rattle.vo_spec.specs.declared.queries.Cmp.TheVariants as cmp
 use Rattle.vo_spec.specs.declared.queries.Operand.{Operand}
 use Rattle.vo_spec.specs.declared.queries.Operand.TheVariants.{Ref as Column_of, Literal}
 use Rattle.vo_spec.specs.declared.queries.QueryFault.{QueryFault}
@@ -20,9 +20,9 @@ use Rattle.vo_spec.specs.declared.queries.QueryFault.TheVariants.{NoTable, NoCol
 use Rattle.vo_spec.specs.declared.queries.Outcome.{Outcome}
 use Rattle.vo_spec.specs.declared.queries.Outcome.TheVariants.{Rows, Wrong}
 use Rattle.vo_spec.specs.Firsts.{first_of, first_some}
-use Rattle.vo_spec.specs.Values.{kind_of, same_kind, value_of_key, value_cmp}
+use Rattle.vo_spec.specs.Values.{same_kind, is_of_kind, value_of_key}
 use Rattle.vo_spec.specs.Tables.{TableHeader, table_header_of, table_header_named, rows_named, column_at, column_number, has_column, cell_number, value_at}
-use Rattle.vo_spec.specs.Conditions.{condition_refs, comparisons, is_met, Query}
+use Rattle.vo_spec.specs.Conditions.{condition_refs, comparisons, comparison_truth, is_true, is_met, Query}
 
 -- The sources.
 
@@ -137,13 +137,12 @@ join_fault ss j = first_of
     ∷ (not (same_kind (ref_kind ss j.left_ref) (ref_kind ss j.right_ref)), TypeMismatch)
     ∷ [])
 
-abbrev pub operand_kind : List BoundSource → Operand → Kind
-operand_kind ss (Column_of r) = ref_kind ss r
-operand_kind ss (Literal v) = kind_of v
+abbrev pub is_operand_of : List BoundSource → Kind → Operand → Bool
+is_operand_of ss k (Column_of r) = same_kind k (ref_kind ss r)
+is_operand_of ss k (Literal v) = is_of_kind k v
 
 abbrev pub kind_fault : List BoundSource → Ref × Operand → Option QueryFault
-kind_fault ss c = if same_kind (ref_kind ss c.0) (operand_kind ss c.1) then None
-    else Some TypeMismatch
+kind_fault ss c = if is_operand_of ss (ref_kind ss c.0) c.1 then None else Some TypeMismatch
 
 abbrev pub binding_fault : List TableHeader → Query → Option QueryFault
 binding_fault table_headers q = let ss = bound_sources table_headers q in first_some
@@ -204,11 +203,11 @@ place_value rows p = slice_index_or rows p.bound_source no_row_view p.column
 abbrev pub ref_value : List BoundSource → List RowView → Ref → Value
 ref_value ss rows r = place_value rows (place_of ss r)
 
--- whether ON's columns are equal
+-- whether ON's columns are equal, neither of them NULL
 abbrev pub is_joined : List BoundSource → List RowView → Option Join → Bool
 is_joined ss rows None = true
-is_joined ss rows (Some j) = is_eq
-    (value_cmp (ref_value ss rows j.left_ref) (ref_value ss rows j.right_ref))
+is_joined ss rows (Some j) = is_true
+    (comparison_truth cmp.Eq (ref_value ss rows j.left_ref) (ref_value ss rows j.right_ref))
 
 abbrev pub is_answer : List BoundSource → Query → List RowView → Bool
 is_answer ss q rows = is_joined ss rows q.join && is_met (ref_value ss rows) q.condition

@@ -14,9 +14,9 @@ use Rattle.vo_spec.specs.declared.tables.SetPart.{SetPart}
 use Rattle.vo_spec.specs.declared.tables.Command.{Command}
 use Rattle.vo_spec.specs.declared.tables.Command.TheVariants.{Create, Drop, Insert, Update, Delete}
 use Rattle.vo_spec.specs.declared.tables.CommandFault.{CommandFault}
-use Rattle.vo_spec.specs.declared.tables.CommandFault.TheVariants.{TableExists, NoTable, BadSchema, Arity, TypeMismatch, DuplicateKey, NoRow, TableFull, TooManyTables, KeyTooLong, NoColumn, NotKey, BadSet}
+use Rattle.vo_spec.specs.declared.tables.CommandFault.TheVariants.{TableExists, NoTable, BadSchema, Arity, TypeMismatch, DuplicateKey, NoRow, TableFull, TooManyTables, KeyTooLong, NoColumn, NotKey, BadSet, NotNull}
 use Rattle.vo_spec.specs.Firsts.{first_of, unless, and_then}
-use Rattle.vo_spec.specs.Values.{kind_of, same_kind, key_of, key_lt}
+use Rattle.vo_spec.specs.Values.{same_kind, is_null, is_of_kind, key_of, key_lt}
 
 -- how many tables there may be, rows in a table, bytes in a stored key
 abbrev pub max_tables : ℕ
@@ -35,7 +35,7 @@ abbrev pub no_value : Value
 no_value = Truth false
 
 abbrev pub no_column : Column
-no_column = record { name = []; kind = kind.Int }
+no_column = record { name = []; kind = kind.Int; nullable = false }
 
 abbrev pub value_at : List Value → ℕ → Value
 value_at values i = slice_index_or values i no_value
@@ -46,6 +46,10 @@ column_at columns i = slice_index_or columns i no_column
 -- the number of the column of this name, or else how many there are
 abbrev pub column_number : List Column → List ℕ → ℕ
 column_number columns name = position_or_len (λ c. bytes_eq c.name name) columns
+
+-- the column of this name
+abbrev pub column_named : List Column → List ℕ → Column
+column_named columns name = column_at columns (column_number columns name)
 
 abbrev pub has_column : List Column → List ℕ → Bool
 has_column columns name = nat_lt (column_number columns name) (length columns)
@@ -62,9 +66,17 @@ has_twice (name ∷ names) = list_any (bytes_eq name) names || has_twice names
 -- whether each value is of its column's kind, column by column
 abbrev pub are_of_kinds : List Column → List Value → Bool
 are_of_kinds [] [] = true
-are_of_kinds (c ∷ columns) (v ∷ values) = same_kind c.kind (kind_of v)
-    && are_of_kinds columns values
+are_of_kinds (c ∷ columns) (v ∷ values) = is_of_kind c.kind v && are_of_kinds columns values
 are_of_kinds _ _ = false
+
+-- whether the column may have the value, as far as NULL goes
+abbrev pub allows : Column → Value → Bool
+allows c v = c.nullable || not (is_null v)
+
+-- whether each column may have its value, as far as NULL goes, column by column
+abbrev pub allow_each : List Column → List Value → Bool
+allow_each (c ∷ columns) (v ∷ values) = allows c v && allow_each columns values
+allow_each _ _ = true
 
 -- Tables without their rows, by which nearly all refusals go.
 
@@ -85,20 +97,20 @@ abbrev pub on_table : List ℕ → List TableHeader → (TableHeader → List (B
 on_table name table_headers tests =
     option_map_or (λ h. first_of (tests h)) (table_header_named name table_headers) (Some NoTable)
 
--- no schema: two columns of one name, or a key that is no column or a BOOLEAN
+-- no schema: two columns of one name, or a key that is no column, a BOOLEAN or nullable
 abbrev pub is_bad_schema : List Column → List ℕ → Bool
 is_bad_schema columns key =
     has_twice (map (λ (c : Column). c.name) columns)
     || not (has_column columns key)
-    || same_kind (column_at columns (column_number columns key)).kind kind.Bool
+    || same_kind (column_named columns key).kind kind.Bool
+    || (column_named columns key).nullable
 
 abbrev pub is_key : Schema → List ℕ → Bool
 is_key schema name = column_number schema.columns name == schema.key
 
 -- whether the value is of the kind of the column of this name
 abbrev pub suits : List Column → List ℕ → Value → Bool
-suits columns name value = same_kind (column_at columns (column_number columns name)).kind
-    (kind_of value)
+suits columns name value = is_of_kind (column_named columns name).kind value
 
 -- The tests of each command, in their order, but for those that need the rows (DuplicateKey,
 -- NoRow).
@@ -117,6 +129,10 @@ abbrev pub insert_tests : List Value → TableHeader → Tests
 insert_tests values h =
     (not (length values == length h.schema.columns), Arity)
     ∷ (not (are_of_kinds h.schema.columns values), TypeMismatch)
+    ∷ (
+      is_null (value_at values h.schema.key) || not (allow_each h.schema.columns values),
+      NotNull,
+    )
     ∷ (nat_lt max_key (length (key_of (value_at values h.schema.key))), KeyTooLong)
     ∷ (nat_le max_rows h.count, TableFull)
     ∷ []
@@ -138,6 +154,11 @@ update_tests sets column value h = (
           && suits h.schema.columns column value),
       TypeMismatch,
     )
+    ∷ (
+      is_null value || not (list_all
+          (λ (s : SetPart). allows (column_named h.schema.columns s.column) s.value) sets),
+      NotNull,
+    )
     ∷ []
 
 abbrev pub delete_tests : List ℕ → Value → TableHeader → Tests
@@ -145,6 +166,7 @@ delete_tests column value h =
     (not (has_column h.schema.columns column), NoColumn)
     ∷ (not (is_key h.schema column), NotKey)
     ∷ (not (suits h.schema.columns column value), TypeMismatch)
+    ∷ (is_null value, NotNull)
     ∷ []
 
 -- the first of a command's tests that holds

@@ -1,6 +1,7 @@
 //! The rows of trees as a proof has them: whole, with hidden cells, or as a digest alone.
 ghost use Rattle.std.specs.Prelude.{◌≡◌, IfOk};
 ghost use Rattle.vo_spec.specs.Lent.{value_of};
+ghost use Rattle.vo_spec.specs.Values.{is_null};
 
 use crate::digest::Digest;
 use crate::keys::Key;
@@ -13,6 +14,7 @@ use std::marker::Model;
 /// A value whose text, if it is one, is lent.
 #[derive(Clone, Copy, Debug)]
 pub enum ValueRef<'b> {
+    Null,
     Int(i64),
     Text(&'b [u8]),
     Bool(bool),
@@ -67,11 +69,21 @@ impl<'b> CellValue<'b> {
 }
 
 impl ValueRef<'_> {
+    pub fn is_null(self) -> bool
+        ensures { result ≡ is_null (value_of self.entry) }
+    {
+        match self {
+            ValueRef::Null => true,
+            ValueRef::Int(_) | ValueRef::Text(_) | ValueRef::Bool(_) => false,
+        }
+    }
+
     /// The value, with a text of its own.
     pub fn to_value(&self, alloc: Global) -> Result<Value, AllocError>
         ensures { IfOk result (λ value. value ≡ value_of self.now) }
     {
         match self {
+            ValueRef::Null => Ok(Value::Null),
             ValueRef::Int(number) => Ok(Value::Int(*number)),
             ValueRef::Text(text) => Ok(Value::Text(Text::from_vec(Vec::from_slice(alloc, text)?))),
             ValueRef::Bool(truth) => Ok(Value::Bool(*truth)),
@@ -85,6 +97,7 @@ impl Value {
         ensures { value_of result ≡ self.now }
     {
         match self {
+            Value::Null => ValueRef::Null,
             Value::Int(number) => ValueRef::Int(*number),
             Value::Text(text) => ValueRef::Text(text.as_bytes()),
             Value::Bool(truth) => ValueRef::Bool(*truth),

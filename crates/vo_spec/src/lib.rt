@@ -36,7 +36,7 @@ pub use lists::{List, SharedList};
 pub use needs::{Need, SeenRow};
 pub use numbers::{u16_bytes, u32_bytes, u64_bytes};
 pub use queries::{Cmp, Cond, Items, Join, Operand, Outcome, QueryFault, QueryText, Ref, Source};
-pub use records::{Catalog, CatalogTable, Entry, Record};
+pub use records::{Catalog, CatalogTable, Entry, Magic, Record};
 pub use signatures::{Levels, LmsType, OtsType};
 pub use tables::{Batch, Column, Command, CommandFault, Schema, SetPart, Table};
 pub use texts::{Name, Text};

@@ -57,6 +57,8 @@ pub enum Cond {
     Any(List<Cond>),
     Not(Box<Cond>),
     Test { left: Ref, op: Cmp, right: Operand },
+    /// IS NULL, or IS NOT NULL where it is negated.
+    IsNull { left: Ref, negated: bool },
 }
 
 #[derive(Debug, Drop)]

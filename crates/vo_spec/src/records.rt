@@ -19,9 +19,19 @@ pub struct Catalog {
     pub tables: List<CatalogTable>,
 }
 
+/// What a record begins with, which its catalog decides.
+#[derive(Clone, Copy, PartialEq, Eq, Debug)]
+pub enum Magic {
+    /// No column is nullable.
+    Vrec,
+    /// Some column is nullable.
+    Vrc2,
+}
+
 /// What is signed: whose tables, which version of them, and the digest of their catalog.
 #[derive(Clone, Copy, PartialEq, Eq, Debug)]
 pub struct Record {
+    pub magic: Magic,
     pub id: [u8; 16],
     pub version: u64,
     pub catalog: Digest,

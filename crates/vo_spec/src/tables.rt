@@ -8,6 +8,8 @@ use thiserror::Error;
 pub struct Column {
     pub name: Name,
     pub kind: Kind,
+    /// Whether it may be NULL.
+    pub nullable: bool,
 }
 
 /// The columns of a table, and the number of the one that is its key.
@@ -94,4 +96,6 @@ pub enum CommandFault {
     NotKey,
     #[error("the key is set, or a column twice")]
     BadSet,
+    #[error("NULL for the key or for a column that is not nullable")]
+    NotNull,
 }

@@ -1,5 +1,6 @@
 //! Values of columns, and rows of them.
 ghost use Rattle.std.specs.Prelude.{◌≡◌, IfOk};
+ghost use Rattle.vo_spec.specs.Values.{is_null};
 
 use crate::keys::Key;
 use crate::lists::List;
@@ -20,6 +21,8 @@ pub enum Kind {
 /// One value of a column.
 #[derive(Debug, Drop)]
 pub enum Value {
+    /// The value that is absent.
+    Null,
     Int(i64),
     Text(Text),
     Bool(bool),
@@ -33,11 +36,18 @@ pub struct Row {
 }
 
 impl Value {
+    pub fn is_null(&self) -> bool
+        ensures { result ≡ is_null self.now }
+    {
+        matches!(self, Value::Null)
+    }
+
     /// The same value once more.
     pub fn copy(&self, alloc: Global) -> Result<Value, AllocError>
         ensures { IfOk result (λ value. value ≡ self.now) }
     {
         match self {
+            Value::Null => Ok(Value::Null),
             Value::Int(number) => Ok(Value::Int(*number)),
             Value::Text(text) => Ok(Value::Text(text.copy(alloc)?)),
             Value::Bool(truth) => Ok(Value::Bool(*truth)),
