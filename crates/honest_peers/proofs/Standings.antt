@@ -30,7 +30,8 @@ use Rattle.owner_session.specs.Work.{catch_up, deliveries, standing, with_place}
 use Rattle.vo_commands.specs.Committing.{entry_forms, place_beside, place_by, place_if_read, place_of_record}
 use Rattle.honest_peers.specs.Owning.{IsStoreAfter}
 use Rattle.honest_peers.proofs.Requests.{behind_status, record_long, status_reply}
-use Rattle.workload_run.proofs.StoreSteps.{StoreLaws, same_records}
+use Rattle.workload_run.proofs.StoreSteps.{StoreLaws}
+use Rattle.vo_store.proofs.InstallLaws.{same_now}
 use Rattle.honest_peers.proofs.CatchingUp.{GoesOn, IsAt, deliver_first, deliver_rest, version_at}
 use Rattle.honest_peers.proofs.Trading.{Deeds, OwnInput, OwnWork, Runs, input_with, traded}
 
@@ -94,7 +95,7 @@ pub place_held : (es : List Entry) (rec : Record) (e : Entry) → slice_get es r
 place_held es rec e found same =
     ap (place_beside rec) found
     ∙ ap (λ (b : Bool). if b then Holds (rec.version + 1) else Elsewhere)
-    (same_records e.rec rec same)
+    (same_now e.rec rec same)
 
 -- Catching up.
 

@@ -5,10 +5,11 @@ use lms_sign::{SecretKey, SecretTree, ots_part, pair_of, verify};
 use std::alloc::{AllocError, Global};
 use std::test::Fail;
 use version_record::record_bytes;
-use vo_spec::{Digest, LmsType, OtsType, Record, u32_bytes};
+use vo_spec::{Digest, LmsType, Magic, OtsType, Record, u32_bytes};
 
 fn record(version: u64, catalog: u8) -> Record {
     Record {
+        magic: Magic::Vrec,
         id: [7; 16],
         version,
         catalog: Digest::new([catalog; 32]),

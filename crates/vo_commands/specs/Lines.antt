@@ -4,7 +4,7 @@ use Rattle.std.specs.Fmt.{signed_decimal}
 use Rattle.hex.specs.Hex.{encode_lower}
 use Rattle.outside.specs.Outputs.{Output, line}
 use Rattle.vo_spec.specs.declared.values.Value.{Value}
-use Rattle.vo_spec.specs.declared.values.Value.TheVariants.{Int, Text, Bool as Truth}
+use Rattle.vo_spec.specs.declared.values.Value.TheVariants.{Null, Int, Text, Bool as Truth}
 use Rattle.vo_spec.specs.declared.queries.QueryFault.{QueryFault}
 use Rattle.vo_spec.specs.declared.queries.QueryFault.TheVariants as query
 use Rattle.vo_spec.specs.declared.queries.Outcome.{Outcome}
@@ -70,6 +70,7 @@ abbrev pub quoted_byte : ℕ → List ℕ
 quoted_byte b = if b == 39 then 39 ∷ 39 ∷ [] else b ∷ []
 
 abbrev pub literal : Value → List ℕ
+literal Null = codes "NULL"
 literal (Int z) = signed_decimal z
 literal (Text s) = 39 ∷ flat_map quoted_byte s ++ 39 ∷ []
 literal (Truth true) = codes "TRUE"
@@ -280,6 +281,7 @@ fault_name command.KeyTooLong = codes "KeyTooLong"
 fault_name command.NoColumn = codes "NoColumn"
 fault_name command.NotKey = codes "NotKey"
 fault_name command.BadSet = codes "BadSet"
+fault_name command.NotNull = codes "NotNull"
 
 abbrev pub command_output : ℕ → CommandFault → Output
 command_output index fault = refusal 8 (codes "command" ∷ decimal index ∷ fault_name fault ∷ [])

@@ -59,6 +59,7 @@ impl Piece for Value {
 
     fn push_to(&self, _alloc: Global, out: &mut Vec<u8>) -> Result<(), AllocError> {
         match self {
+            Value::Null => out.extend_from_slice(b"NULL"),
             Value::Int(number) => push_integer(out, *number),
             Value::Text(text) => push_quoted(out, text.as_bytes()),
             Value::Bool(true) => out.extend_from_slice(b"TRUE"),

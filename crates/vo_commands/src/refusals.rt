@@ -93,5 +93,6 @@ fn name_of(fault: CommandFault) -> &'static str
         CommandFault::NoColumn => "NoColumn",
         CommandFault::NotKey => "NotKey",
         CommandFault::BadSet => "BadSet",
+        CommandFault::NotNull => "NotNull",
     }
 }

@@ -2,11 +2,13 @@
 -- queries of it. Two words make a step, and two a query.
 use Rattle.std.specs.Prelude.{◌≡◌, ℕ, zero, suc, ◌+◌, ◌-◌, ◌*◌, ◌/◌, ◌%◌, ◌<◌, min, pos, Bool, false, not, ◌&&◌, ◌==◌, if◌then◌else◌, List, [], ◌∷◌, ◌++◌, map, codes, decimal, Some, None}
 use Rattle.std.specs.List.{range_with_len}
+use Rattle.vo_spec.specs.declared.values.Kind.{Kind}
 use Rattle.vo_spec.specs.declared.values.Kind.TheVariants as kind
 use Rattle.vo_spec.specs.declared.values.Value.{Value}
 use Rattle.vo_spec.specs.declared.values.Value.TheVariants.{Int, Text}
 use Rattle.vo_spec.specs.declared.values.Row.{Row}
 use Rattle.vo_spec.specs.declared.tables.Batch.{Batch}
+use Rattle.vo_spec.specs.declared.tables.Column.{Column}
 use Rattle.vo_spec.specs.declared.tables.Table.{Table}
 use Rattle.vo_spec.specs.declared.tables.Command.{Command}
 use Rattle.vo_spec.specs.declared.tables.Command.TheVariants.{Create, Insert, Update, Delete}
@@ -42,11 +44,14 @@ number n = Int (pos n)
 
 -- Commands.
 
+-- a column that isn't nullable
+abbrev pub column : List ℕ → Kind → Column
+column name k = record { name = name; kind = k; nullable = false }
+
 -- CREATE TABLE t (id BIGINT, name TEXT, boss BIGINT, PRIMARY KEY (id))
 abbrev pub creation : Command
 creation = Create (codes "t")
-    (record { name = codes "id"; kind = kind.Int } ∷ record { name = codes "name"; kind = kind.Text }
-    ∷ record { name = codes "boss"; kind = kind.Int } ∷ [])
+    (column (codes "id") kind.Int ∷ column (codes "name") kind.Text ∷ column (codes "boss") kind.Int ∷ [])
     (codes "id")
 
 -- the key, the letter n before a word in decimal, and the boss
@@ -172,9 +177,7 @@ abbrev pub tables_of : List Row → List Table
 tables_of rows = record {
   name = codes "t";
   schema = record {
-    columns = record { name = codes "id"; kind = kind.Int }
-        ∷ record { name = codes "name"; kind = kind.Text }
-        ∷ record { name = codes "boss"; kind = kind.Int } ∷ [];
+    columns = column (codes "id") kind.Int ∷ column (codes "name") kind.Text ∷ column (codes "boss") kind.Int ∷ [];
     key = 0;
   };
   rows = rows;

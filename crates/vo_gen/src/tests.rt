@@ -63,7 +63,7 @@ fn put_value(alloc: Global, out: &mut Vec<u8>, value: &Value) -> Result<(), Allo
     match value {
         Value::Int(number) => out.extend_from_slice(number.to_string(alloc)?.as_bytes())?,
         Value::Text(text) => out.extend_from_slice(text.as_bytes())?,
-        Value::Bool(_) => out.push(b'?')?,
+        Value::Bool(_) | Value::Null => out.push(b'?')?,
     }
     Ok(())
 }

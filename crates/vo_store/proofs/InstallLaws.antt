@@ -4,6 +4,8 @@ use Rattle.std.specs.Prelude.{◌==◌, not}
 use Rattle.std.specs.Option.{option_map_or}
 use Rattle.std.proofs.lemmas.Bool.{and_parts, and_from, eqb-true, eq-eqb}
 use Rattle.std.proofs.lemmas.Slice.Eq.{bytes_eq-Decides}
+use Rattle.vo_spec.specs.declared.records.Magic.{Magic}
+use Rattle.vo_spec.specs.declared.records.Magic.TheVariants.{Vrec, Vrc2}
 use Rattle.vo_spec.specs.declared.records.Record.{Record}
 use Rattle.vo_spec.specs.Firsts.{and_then, first_of, unless}
 use Rattle.vo_spec.specs.Keys.{leaf_of}
@@ -13,29 +15,41 @@ use Rattle.vo_store.specs.declared.fault.StoreFault.{StoreFault}
 use Rattle.vo_store.specs.declared.fault.StoreFault.TheVariants as fault
 use Rattle.vo_store.specs.declared.signed_record.SignedRecord.{SignedRecord}
 use Rattle.vo_store.specs.StoreState.{StoreState, with_installed}
-use Rattle.vo_store.specs.Calls.{same_record, is_signed, signed_record, install_on, install_of, next_version}
+use Rattle.vo_store.specs.Calls.{same_magic, same_record, is_signed, signed_record, install_on, install_of, next_version}
 
 -- a test that doesn't hold is false
 fails : (b : Bool) → (b ≡ true → ⊥) → b ≡ false
 fails true other = absurd (other refl)
 fails false other = refl
 
-abbrev record_with : List ℕ → ℕ → List ℕ → Record
-record_with id version catalog = record { id = id; version = version; catalog = catalog }
+abbrev record_with : Magic → List ℕ → ℕ → List ℕ → Record
+record_with magic id version catalog = record { magic = magic; id = id; version = version; catalog = catalog }
+
+same_words : (a b : Magic) → same_magic a b ≡ true → a ≡ b
+same_words Vrec Vrec e = refl
+same_words Vrc2 Vrc2 e = refl
+same_words a b e = absurd (cc)
+
+same_word : (a : Magic) → same_magic a a ≡ true
+same_word Vrec = refl
+same_word Vrc2 = refl
 
 same_parts : (a b : Record) → same_record a b ≡ true → a ≡ b
 same_parts a b e =
     let all = and_parts _ _ e in
     let front = and_parts _ _ all.0 in
-    let id : a.id ≡ b.id = (bytes_eq-Decides a.id b.id).0 front.0 in
+    let begun = and_parts _ _ front.0 in
+    let magic : a.magic ≡ b.magic = same_words a.magic b.magic begun.0 in
+    let id : a.id ≡ b.id = (bytes_eq-Decides a.id b.id).0 begun.1 in
     let version : a.version ≡ b.version = eqb-true a.version b.version front.1 in
     let catalog : a.catalog ≡ b.catalog = (bytes_eq-Decides a.catalog b.catalog).0 all.1 in
-    ap (λ (x : List ℕ). record_with x a.version a.catalog) id ∙ ap (λ (x : ℕ). record_with b.id x a.catalog) version ∙ ap (λ (x : List ℕ). record_with b.id b.version x) catalog
+    ap (λ (x : Magic). record_with x a.id a.version a.catalog) magic ∙ ap (λ (x : List ℕ). record_with b.magic x a.version a.catalog) id
+    ∙ ap (λ (x : ℕ). record_with b.magic b.id x a.catalog) version ∙ ap (λ (x : List ℕ). record_with b.magic b.id b.version x) catalog
 
 same_self : (a : Record) → same_record a a ≡ true
-same_self a = and_from _ _ (and_from _ _ ((bytes_eq-Decides a.id a.id).1 refl) (eq-eqb a.version a.version refl)) ((bytes_eq-Decides a.catalog a.catalog).1 refl)
+same_self a = and_from _ _ (and_from _ _ (and_from _ _ (same_word a.magic) ((bytes_eq-Decides a.id a.id).1 refl)) (eq-eqb a.version a.version refl)) ((bytes_eq-Decides a.catalog a.catalog).1 refl)
 
-same_now : (a b : Record) → a ≡ b → same_record a b ≡ true
+pub same_now : (a b : Record) → a ≡ b → same_record a b ≡ true
 same_now a b e = subst (λ (c : Record). same_record a c ≡ true) e (same_self a)
 
 module _ (key : List ℕ) (rec : Record) (signature : List ℕ) where

@@ -1,6 +1,6 @@
 mod ProofLaws
 mod SignatureLaws
-mod InstallLaws
+pub mod InstallLaws
 mod KeptLaws
 mod HonestLaws
 mod TableLaws

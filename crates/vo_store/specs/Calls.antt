@@ -4,6 +4,8 @@ use Rattle.std.specs.Global.{Vec}
 use Rattle.std.specs.Option.{option_map_or}
 use Rattle.vo_spec.specs.declared.tables.Command.{Command}
 use Rattle.vo_spec.specs.declared.tables.CommandFault.{CommandFault}
+use Rattle.vo_spec.specs.declared.records.Magic.{Magic}
+use Rattle.vo_spec.specs.declared.records.Magic.TheVariants.{Vrec, Vrc2}
 use Rattle.vo_spec.specs.declared.records.Record.{Record}
 use Rattle.vo_spec.specs.Firsts.{and_then, first_of, unless}
 use Rattle.vo_spec.specs.Conditions.{Query}
@@ -89,8 +91,14 @@ FitProofs (Err why) = Unit {0}
 abbrev pub next_version : Option SignedRecord → ℕ
 next_version installed = option_map_or (λ (e : SignedRecord). e.rec.version + 1) installed 0
 
+abbrev pub same_magic : Magic → Magic → Bool
+same_magic Vrec Vrec = true
+same_magic Vrc2 Vrc2 = true
+same_magic _ _ = false
+
 abbrev pub same_record : Record → Record → Bool
-same_record a b = bytes_eq a.id b.id && (a.version == b.version) && bytes_eq a.catalog b.catalog
+same_record a b = same_magic a.magic b.magic && bytes_eq a.id b.id && (a.version == b.version)
+    && bytes_eq a.catalog b.catalog
 
 -- the signature of the record is valid, and by the leaf of its version
 abbrev pub is_signed : List ℕ → Record → List ℕ → Bool

@@ -11,7 +11,7 @@ use std::alloc::{AllocError, Global};
 use std::test::Fail;
 use store_requests::read_query;
 use vo_check::{Checking, Client};
-use vo_spec::{Answer, Batch, CheckFault, Digest, List, Outcome, QueryFault, QueryText, Record};
+use vo_spec::{Answer, Batch, CheckFault, Digest, List, Magic, Outcome, QueryFault, QueryText, Record};
 use vo_store::Store;
 
 /// Requests of one query: of the newest version, of version 0 and of version 1.
@@ -156,6 +156,7 @@ fn an_owner_installs_and_proposes(rt: HostRuntime) -> Result<(), Fail> {
 
 fn are_read(alloc: Global, net: &mut MemNet<Never>) -> bool {
     let rec = Record {
+        magic: Magic::Vrec,
         id: [0; 16],
         version: 0,
         catalog: Digest::new([0; 32]),

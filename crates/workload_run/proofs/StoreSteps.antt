@@ -4,7 +4,6 @@ use Rattle.std.specs.Prelude.{◌⊎◌, ◌==◌, not, is_none, IsOk, IsSome}
 use Rattle.std.specs.Option.{option_map_or}
 use Rattle.std.specs.Result.{is_ok}
 use Rattle.std.proofs.lemmas.Bool.{and_from, eq-eqb}
-use Rattle.std.proofs.lemmas.Slice.Eq.{bytes_eq-Decides}
 use Rattle.vo_spec.specs.declared.records.Record.{Record}
 use Rattle.vo_spec.specs.declared.records.Entry.{Entry}
 use Rattle.vo_spec.specs.declared.tables.Command.{Command}
@@ -24,6 +23,7 @@ use Rattle.vo_store.specs.declared.fault.StoreFault.TheVariants as fault
 use Rattle.vo_store.specs.declared.signed_record.SignedRecord.{SignedRecord}
 use Rattle.vo_store.specs.HonestStores.{IsHonestAfter}
 use Rattle.vo_store.specs.StoreState.{StoreState, new_store, with_installed, with_pending}
+use Rattle.vo_store.proofs.InstallLaws.{same_now}
 use Rattle.vo_store.specs.Calls.{install_of, install_on, is_signed, next_version, proposal_of, same_record, signed_record, with_proofs}
 
 -- what honest stores keep, and their owners with them
@@ -114,15 +114,6 @@ installs_signed s next rec signature e = step s.pending e
     step (Some after) f = made after _ _ refl f
 
 -- a store takes the entry of version 0
-same_self : (a : Record) → same_record a a ≡ true
-same_self a =
-    and_from _ _
-    (and_from _ _ ((bytes_eq-Decides a.id a.id).1 refl) (eq-eqb a.version a.version refl))
-    ((bytes_eq-Decides a.catalog a.catalog).1 refl)
-
-pub same_records : (a b : Record) → a ≡ b → same_record a b ≡ true
-same_records a b e = subst (λ (c : Record). same_record a c ≡ true) e (same_self a)
-
 module _ (key : List ℕ) (rec : Record) (signature : List ℕ) where
   abbrev by_leaf : Option ℕ → Bool
   by_leaf o = option_map_or (λ leaf. leaf == rec.version) o false
@@ -139,7 +130,7 @@ module _ (key : List ℕ) (rec : Record) (signature : List ℕ) where
   good_record : (due : Record) → rec ≡ due → IsSigned key rec signature
       → signed_record key due rec signature ≡ Ok (record { rec = rec; signature = signature })
   good_record due same signed = ap (λ b. by due b (is_signed key rec signature))
-      (same_records rec due same) ∙ ap (by due true) (signed_is signed)
+      (same_now rec due same) ∙ ap (by due true) (signed_is signed)
 
 pub first_taken : (s : StoreState) (rec : Record) (signature : List ℕ) → s.installed ≡ None
     → s.pending ≡ Some [] → rec ≡ honest_record s.key 0 (honest_trees [])
