@@ -16,7 +16,7 @@ use Rattle.vo_spec.specs.declared.queries.Items.TheVariants.{All, Refs}
 use Rattle.vo_spec.specs.declared.queries.Operand.{Operand}
 use Rattle.vo_spec.specs.Values.{value_of_key, IsKeyOf}
 use Rattle.vo_spec.specs.Tables.{column_at, has_column, cell_number}
-use Rattle.vo_spec.specs.Conditions.{Condition, condition_refs, comparisons, is_met, Query, FitsOperand, FitsQuery}
+use Rattle.vo_spec.specs.Conditions.{Condition, condition_refs, comparisons, is_true, is_met, Query, FitsOperand, FitsQuery}
 use Rattle.vo_spec.specs.Results.{BoundSource, ColumnPlace, bound_source_at, schema_at, place_of, means_column_of, qualifies, item_refs, join_refs, query_refs, numbers_from, places_in, shown_places, RowView, row_view_of, no_row_view, place_value, ref_value, is_joined, is_answer, combinations, answer_rows}
 use Rattle.vo_spec.specs.Scans.{in_interval}
 use Rattle.vo_spec.specs.Needs.{all_keys, interval_of, left_truth, meets_left, is_place, shows_all, is_named_column, named_columns, named_cells, uncut_need}
@@ -178,7 +178,7 @@ module _ (ss : List BoundSource) (q : Query) where
   same_met : (rows others : List RowView) → Agree rows others → (c : Option Condition) → AllByRecursion (λ r. IsRead (place_of ss r)) (option_map_or condition_refs c [])
       → is_met (ref_value ss rows) c ≡ is_met (ref_value ss others) c
   same_met rows others a None all = refl
-  same_met rows others a (Some c) all = same_truth (ref_value ss rows) (ref_value ss others) c (same_refs rows others a (condition_refs c) all)
+  same_met rows others a (Some c) all = ap is_true (same_truth (ref_value ss rows) (ref_value ss others) c (same_refs rows others a (condition_refs c) all))
 
   pub same_answer : (rows others : List RowView) → Agree rows others → answer_of rows ≡ answer_of others
   same_answer rows others a =

@@ -21,12 +21,12 @@ use Rattle.vo_spec.specs.Firsts.{first_some, unless}
 use Rattle.vo_spec.specs.Tables.{TableHeader, table_header_of, table_header_named, rows_named, tables_after}
 use Rattle.vo_spec.specs.Batches.{FitsBatch}
 use Rattle.vo_spec.specs.Conditions.{Condition, Query, FitsQuery}
-use Rattle.vo_spec.specs.Results.{BoundSource, schema_at, bound_sources, no_schema, binding_fault, result}
+use Rattle.vo_spec.specs.Results.{BoundSource, RowView, schema_at, bound_sources, no_schema, binding_fault, result}
 use Rattle.vo_spec.specs.Records.{table_headers, record_bytes, catalog_digest}
 use Rattle.vo_spec.specs.Trees.{RowTree, Prunes}
 use Rattle.vo_spec.specs.Scans.{seen}
 use Rattle.vo_spec.specs.Pruning.{is_missing, has_surplus, prune_tree}
-use Rattle.vo_spec.specs.Needs.{meets_left, uncut_need, right_need, named_cells, seen_row_view, right_needs, needs, tables_used, same_table}
+use Rattle.vo_spec.specs.Needs.{meets_left, uncut_need, has_join_value, right_need, named_cells, seen_row_view, right_needs, needs, tables_used, same_table}
 use Rattle.vo_spec.specs.Checks.{table_named, has_table_shape, root_fault, trees_of, key_fault, leaf_fault, signature_fault, age_fault, catalog_fault, count_fault, shape_fault, missing_fault, surplus_fault, check_fault, seen_outcome, answer_to}
 use Rattle.vo_spec.specs.Replies.{Reply}
 use Rattle.vo_spec.specs.Keys.{key_id, lms_valid}
@@ -125,16 +125,19 @@ module _ (stored : List Stored) (tables : List Table) (stand : RepresentTables s
     abbrev both_sources : List BoundSource
     both_sources = bound_sources (map table_header_of tables) joining
 
+    -- the left rows with a value to join by
+    abbrev lefts_of : Option (List SeenRow) → List RowView
+    lefts_of o = filter (has_join_value both_sources j) (filter (meets_left both_sources joining) (map (seen_row_view (schema_at both_sources 0) (uncut_need both_sources joining).columns) (unwrap_or o [])))
+
     abbrev rights_of : Option (List SeenRow) → List Need
-    rights_of o = map (right_need both_sources joining j) (filter (meets_left both_sources joining) (map (seen_row_view (schema_at both_sources 0) (uncut_need both_sources joining).columns) (unwrap_or o []))) ++ []
+    rights_of o = map (right_need both_sources joining j) (lefts_of o) ++ []
 
     rights_bounded : (n : ℕ) (o : Option (List SeenRow)) → AreBelow n (named_cells both_sources joining 1) → AreBounded n (rights_of o)
     rights_bounded n o below =
         each_both (λ (need : Need). AreBelow n need.columns)
-        (map (right_need both_sources joining j) (filter (meets_left both_sources joining) (map (seen_row_view (schema_at both_sources 0) (uncut_need both_sources joining).columns) (unwrap_or o [])))) []
-        (each_right (filter (meets_left both_sources joining) (map (seen_row_view (schema_at both_sources 0) (uncut_need both_sources joining).columns) (unwrap_or o [])))) tt
+        (map (right_need both_sources joining j) (lefts_of o)) [] (each_right (lefts_of o)) tt
       where
-        each_right : (lefts : List (ℕ → Value)) → AreBounded n (map (right_need both_sources joining j) lefts)
+        each_right : (lefts : List RowView) → AreBounded n (map (right_need both_sources joining j) lefts)
         each_right [] = tt
         each_right (l ∷ lefts) = (below, each_right lefts)
 

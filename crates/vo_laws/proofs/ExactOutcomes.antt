@@ -2,10 +2,10 @@
 -- the whole tree of its table and misses nothing, and the whole trees stand for the rows of plain
 -- tables.
 use Rattle.std.proofs.Common.{◌≡◌, ℕ, ◌<◌, Bool, true, false, cond, List, [], ◌∷◌, ◌++◌, Option, Some, None, length, map, inl, inr, refl, sym, ap, ◌∙◌, subst, arith}
-use Rattle.std.specs.Prelude.{◌||◌, ◌==◌, filter, flat_map, find, zip, is_some, bytes_eq}
+use Rattle.std.specs.Prelude.{◌||◌, ◌==◌, not, filter, flat_map, find, zip, is_some, bytes_eq}
 use Rattle.std.specs.Option.{option_map_or}
 use Rattle.std.specs.List.{list_any, AllByRecursion, AllZip}
-use Rattle.std.proofs.lemmas.Bool.{or_parts}
+use Rattle.std.proofs.lemmas.Bool.{or_parts, cases_Bool}
 use Rattle.std.proofs.lemmas.List.{append-nil, length-map}
 use Rattle.vo_spec.specs.declared.values.Row.{Row}
 use Rattle.vo_spec.specs.declared.tables.Schema.{Schema}
@@ -18,7 +18,7 @@ use Rattle.vo_spec.specs.declared.queries.Outcome.{Outcome}
 use Rattle.vo_spec.specs.declared.queries.QueryFault.{QueryFault}
 use Rattle.vo_spec.specs.declared.checks.CheckFault.TheVariants.{Missing}
 use Rattle.vo_spec.specs.Firsts.{first_some}
-use Rattle.vo_spec.specs.Values.{IsKeyOf}
+use Rattle.vo_spec.specs.Values.{is_null, IsKeyOf}
 use Rattle.vo_spec.specs.Tables.{TableHeader, table_header_of, table_header_named, rows_named}
 use Rattle.vo_spec.specs.Conditions.{Condition, comparisons, Query, FitsQuery}
 use Rattle.vo_spec.specs.Results.{BoundSource, schema_at, bound_sources, sources, no_schema, missing_table, same_alias, ref_fault, query_refs, join_fault, kind_fault, binding_fault, header, RowView, row_view_of, answer_rows, outcome, row_views_at, result}
@@ -29,15 +29,15 @@ use Rattle.vo_spec.specs.Cells.{whole_entry}
 use Rattle.vo_spec.specs.Scans.{in_interval}
 use Rattle.vo_spec.specs.Pruning.{is_missing}
 use Rattle.vo_spec.specs.Representation.{Represents}
-use Rattle.vo_spec.specs.Needs.{meets_left, uncut_need, right_need, seen_row_views, seen_lefts, seen_rights, right_needs, needs, tables_used, same_table, right_tree}
+use Rattle.vo_spec.specs.Needs.{meets_left, uncut_need, has_join_value, right_need, seen_row_views, seen_lefts, seen_rights, right_needs, needs, tables_used, same_table, right_tree}
 use Rattle.vo_spec.specs.Checks.{key_kind, needs_with_trees, missing_fault, seen_outcome}
 use Rattle.vo_spec.specs.Replies.{Reply}
 use Rattle.vo_spec.specs.Honest.{Stored, RepresentsTable, RepresentTables, catalog_of, stored_tree, trees_for}
-use Rattle.vo_laws.proofs.ListLaws.{IsIn, in_left, in_map, zip_weaker, zip_filter, flat_map_kept, flat_map_zip, flat_map_map}
+use Rattle.vo_laws.proofs.ListLaws.{IsIn, in_left, in_filter, in_map, zip_weaker, zip_filter, flat_map_kept, flat_map_zip, flat_map_map}
 use Rattle.vo_laws.proofs.ConditionLaws.{KindsAgree}
 use Rattle.vo_laws.proofs.SeenLaws.{accepted, rows_in}
 use Rattle.vo_laws.proofs.AnswerLaws.{answer_of, answers_of, answer_rows_are, AlikeIn, agree_one, same_answer, same_meets, failing_gives_none, outside_gives_none}
-use Rattle.vo_laws.proofs.JoinLaws.{is_bytes, same_rights}
+use Rattle.vo_laws.proofs.JoinLaws.{is_bytes, joins_on_key, no_value_gives_none, same_join_value, same_rights}
 
 -- Of tests in a row none finds a fault.
 
@@ -194,7 +194,7 @@ module _ (stored : List Stored) (tables : List Table) (stand : RepresentTables s
       (lefts rights : List Need) (p r : RowTree)
       → seen_lefts ss q trees ≡ filter (meets_left ss q) (seen_row_views (schema_at ss 0) (uncut_need ss q) p)
       → ((a : RowView) → seen_rights ss q trees a ≡ seen_row_views (schema_at ss 1) (right_need ss q j a) r)
-      → IsIn (uncut_need ss q) lefts → ((a : RowView) → IsIn a (seen_lefts ss q trees) → IsIn (right_need ss q j a) rights)
+      → IsIn (uncut_need ss q) lefts → ((a : RowView) → IsIn a (seen_lefts ss q trees) → has_join_value ss j a ≡ true → IsIn (right_need ss q j a) rights)
       → is_missing lefts p ≡ false → is_missing rights r ≡ false
       → Prunes p (stored_tree stored left.table) → Prunes r (stored_tree stored j.right.table)
       → join_fault ss j ≡ None → AllByRecursion (KindsAgree ss) (option_map_or comparisons condition []) → FitsQuery q
@@ -204,11 +204,16 @@ module _ (stored : List Stored) (tables : List Table) (stand : RepresentTables s
       let ss : List BoundSource = bound_sources (map table_header_of tables) q in
       rw lefts_are (same_lefts ss q (omega arith) kinds fits (seen_rights ss q trees) (λ l. row_views_at tables ss 1) lefts p (stored_tree stored left.table) (rows_named left.table tables)
       i full prunes (named_stands left.table stored tables stand) (left_keys q)
-      (λ a b m alike. ap (flat_map (λ right. answer_of ss q (a ∷ right ∷ []))) (rights_are a)
-      ∙ same_rights ss q j refl a b (seen_row_views (schema_at ss 1) (right_need ss q j a) r) (rows_named j.right.table tables) fault (omega arith) alike
-      (named_keys j.right.table stored tables stand)
-      (accepted (schema_at ss 1) rights (right_need ss q j a) r (stored_tree stored j.right.table) (rows_named j.right.table tables)
-      (k a (subst (IsIn a) (sym lefts_are) m)) complete others (named_stands j.right.table stored tables stand))))
+      (λ a b m alike. elim (cases_Bool (has_join_value ss j a)) [
+        | inl e ↦ ap (flat_map (λ right. answer_of ss q (a ∷ right ∷ []))) (rights_are a)
+            ∙ same_rights ss q j refl a b (seen_row_views (schema_at ss 1) (right_need ss q j a) r) (rows_named j.right.table tables) fault (omega arith) alike
+            (named_keys j.right.table stored tables stand)
+            (accepted (schema_at ss 1) rights (right_need ss q j a) r (stored_tree stored j.right.table) (rows_named j.right.table tables)
+            (k a (subst (IsIn a) (sym lefts_are) m) e) complete others (named_stands j.right.table stored tables stand))
+        | inr e ↦ no_value_gives_none ss q j refl a (joins_on_key ss j fault) e (seen_rights ss q trees a)
+            ∙ sym (no_value_gives_none ss q j refl b (joins_on_key ss j fault) (ap (λ v. not (is_null v)) (sym (same_join_value ss q j refl a b (omega arith) alike)) ∙ e)
+            (row_views_at tables ss 1))
+      ]))
 
   module _ (items : Items) (left : Source) (j : Join) (condition : Option Condition) where
     abbrev joining : Query
@@ -223,10 +228,12 @@ module _ (stored : List Stored) (tables : List Table) (stand : RepresentTables s
         append-nil (seen_row_views (schema_at both_sources 1) (right_need both_sources joining j a) (right_tree both_sources trees))
         ∙ ap (seen_row_views (schema_at both_sources 1) (right_need both_sources joining j a)) e
 
-    right_needed : (trees : List RowTree) (a : RowView) → IsIn a (seen_lefts both_sources joining trees) → IsIn (right_need both_sources joining j a) (right_needs both_sources joining trees)
-    right_needed trees a i =
-        in_left (map (right_need both_sources joining j) (seen_lefts both_sources joining trees)) [] (right_need both_sources joining j a)
-        (in_map (right_need both_sources joining j) (seen_lefts both_sources joining trees) a i)
+    right_needed : (trees : List RowTree) (a : RowView) → IsIn a (seen_lefts both_sources joining trees) → has_join_value both_sources j a ≡ true
+        → IsIn (right_need both_sources joining j a) (right_needs both_sources joining trees)
+    right_needed trees a i e =
+        let with_value : List RowView = filter (has_join_value both_sources j) (seen_lefts both_sources joining trees) in
+        in_left (map (right_need both_sources joining j) with_value) [] (right_need both_sources joining j a)
+        (in_map (right_need both_sources joining j) with_value a (in_filter (has_join_value both_sources j) (seen_lefts both_sources joining trees) a i e))
 
     -- what a client asks of the trees of a join, by whether both sources are one table
     abbrev Full : Bool → List RowTree → Type 0
@@ -247,7 +254,7 @@ module _ (stored : List Stored) (tables : List Table) (stand : RepresentTables s
         let ns : List Need = uncut_need both_sources joining ∷ right_needs both_sources joining (p ∷ []) in
         let complete = or_parts (is_missing ns p) false full in
         let table : left.table ≡ j.right.table = is_bytes left.table j.right.table e in
-        two_sources items left j condition (p ∷ []) ns ns p p refl (rights_from (p ∷ []) p (rw e refl)) (inl refl) (λ a i. inr (right_needed (p ∷ []) a i))
+        two_sources items left j condition (p ∷ []) ns ns p p refl (rights_from (p ∷ []) p (rw e refl)) (inl refl) (λ a i e. inr (right_needed (p ∷ []) a i e))
         complete.0 complete.0 prunes.0 (subst (λ name. Prunes p (stored_tree stored name)) table prunes.0) fault kinds fits
 
     two_trees : join_fault both_sources j ≡ None → AllByRecursion (KindsAgree both_sources) (option_map_or comparisons condition []) → FitsQuery joining
@@ -259,7 +266,7 @@ module _ (stored : List Stored) (tables : List Table) (stand : RepresentTables s
         let complete = or_parts (is_missing (uncut_need both_sources joining ∷ []) p) (is_missing (right_needs both_sources joining (p ∷ r ∷ [])) r || false) full in
         let others = or_parts (is_missing (right_needs both_sources joining (p ∷ r ∷ [])) r) false complete.1 in
         two_sources items left j condition (p ∷ r ∷ []) (uncut_need both_sources joining ∷ []) (right_needs both_sources joining (p ∷ r ∷ [])) p r refl
-        (rights_from (p ∷ r ∷ []) r (rw e refl)) (inl refl) (λ a i. right_needed (p ∷ r ∷ []) a i)
+        (rights_from (p ∷ r ∷ []) r (rw e refl)) (inl refl) (λ a i e. right_needed (p ∷ r ∷ []) a i e)
         complete.0 others.0 prunes.0 prunes.1.0 fault kinds fits
 
     joined : (trees : List RowTree) → join_fault both_sources j ≡ None → AllByRecursion (KindsAgree both_sources) (option_map_or comparisons condition []) → FitsQuery joining

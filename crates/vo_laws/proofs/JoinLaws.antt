@@ -10,21 +10,21 @@ use Rattle.std.proofs.lemmas.Cmp.{int_ranked, by_ranked, nat_list_cmp_total, tie
 use Rattle.std.proofs.lemmas.Map.Text.{is_eq-slice_cmp}
 use Rattle.std.proofs.lemmas.Slice.Eq.{bytes_eq-Decides}
 use Rattle.vo_spec.specs.declared.values.Value.{Value}
-use Rattle.vo_spec.specs.declared.values.Value.TheVariants.{Int, Text, Bool as Truth}
+use Rattle.vo_spec.specs.declared.values.Value.TheVariants.{Int, Text, Bool as Truth, Null}
 use Rattle.vo_spec.specs.declared.values.Row.{Row}
 use Rattle.vo_spec.specs.declared.queries.Cmp.TheVariants as cmp
 use Rattle.vo_spec.specs.declared.queries.Join.{Join}
 use Rattle.vo_spec.specs.declared.queries.QueryFault.TheVariants.{NotKeyJoin, TypeMismatch}
 use Rattle.vo_spec.specs.Firsts.{first_of}
-use Rattle.vo_spec.specs.Values.{same_kind, key_of, key_cmp, value_cmp, value_of_key, IsKeyOf}
+use Rattle.vo_spec.specs.Values.{is_null, same_kind, key_of, key_cmp, value_cmp, value_of_key, IsKeyOf}
 use Rattle.vo_spec.specs.Conditions.{Query, is_met}
 use Rattle.vo_spec.specs.Results.{BoundSource, ColumnPlace, schema_at, place_of, ref_kind, join_refs, join_places, is_key_join, join_fault, RowView, row_view_of, no_row_view, place_value, ref_value, is_joined}
 use Rattle.vo_spec.specs.Scans.{in_interval}
-use Rattle.vo_spec.specs.Needs.{keys_that, join_value, right_need}
+use Rattle.vo_spec.specs.Needs.{keys_that, join_value, has_join_value, right_need}
 use Rattle.vo_spec.specs.Checks.{key_kind}
 use Rattle.vo_laws.proofs.ListLaws.{zip_weaker, flat_map_kept, flat_map_zip, flat_map_map}
 use Rattle.vo_laws.proofs.ValueOrder.{key_again}
-use Rattle.vo_laws.proofs.ConditionLaws.{key_among}
+use Rattle.vo_laws.proofs.ConditionLaws.{key_among, compared}
 use Rattle.vo_laws.proofs.SeenLaws.{rows_in}
 use Rattle.vo_laws.proofs.AnswerLaws.{answer_of, AlikeIn, IsRead, agree_one, agree_two, same_answer, no_answer, joins_read}
 
@@ -39,12 +39,19 @@ integers_equal a b e =
     (λ f h. absurd (both_ways (is_eq (int_cmp a b)) (ap is_eq f) e)) (λ f h. h) (λ f h. absurd (both_ways (is_eq (int_cmp a b)) (ap is_eq f) e))
 
 pub values_equal : (a b : Value) → is_eq (value_cmp a b) ≡ true → a ≡ b
+values_equal Null Null e = refl
+values_equal Null (Int b) e = absurd (cc)
+values_equal Null (Text b) e = absurd (cc)
+values_equal Null (Truth b) e = absurd (cc)
+values_equal (Int a) Null e = absurd (cc)
 values_equal (Int a) (Int b) e = ap Int (integers_equal a b e)
 values_equal (Int a) (Text b) e = absurd (cc)
 values_equal (Int a) (Truth b) e = absurd (cc)
+values_equal (Text a) Null e = absurd (cc)
 values_equal (Text a) (Int b) e = absurd (cc)
 values_equal (Text a) (Text b) e = ap Text (is_bytes a b (sym (is_eq-slice_cmp a b) ∙ e))
 values_equal (Text a) (Truth b) e = absurd (cc)
+values_equal (Truth a) Null e = absurd (cc)
 values_equal (Truth a) (Int b) e = absurd (cc)
 values_equal (Truth a) (Text b) e = absurd (cc)
 values_equal (Truth false) (Truth false) e = refl
@@ -109,11 +116,26 @@ module _ (ss : List BoundSource) (j : Join) where
       → is_joined ss (left ∷ row_view_of (schema_at ss 1) row ∷ []) (Some j) ≡ true → in_interval (keys_that cmp.Eq (key_of (join_value ss j left))) row.key ≡ true
   joined_inside left row on is e =
       let rows : List RowView = left ∷ row_view_of (schema_at ss 1) row ∷ [] in
-      let equal : place_value rows (place_of ss j.left_ref) ≡ place_value rows (place_of ss j.right_ref) = values_equal (ref_value ss rows j.left_ref) (ref_value ss rows j.right_ref) e in
+      let equal : place_value rows (place_of ss j.left_ref) ≡ place_value rows (place_of ss j.right_ref) = values_equal (ref_value ss rows j.left_ref) (ref_value ss rows j.right_ref) (compared cmp.Eq (ref_value ss rows j.left_ref) (ref_value ss rows j.right_ref) e).2 in
       let same : key_of (join_value ss j left) ≡ row.key =
       ap key_of (sym (left_value left (row_view_of (schema_at ss 1) row) on) ∙ equal_places rows equal ∙ right_value left row on)
       ∙ key_again (key_kind (schema_at ss 1)) row.key is in
       key_among cmp.Eq row.key (key_of (join_value ss j left)) (ap is_eq (ap (key_cmp row.key) same ∙ tied_itself nat_list_cmp_total row.key))
+
+  -- a left row that joins with something has a value to join by
+  pub joined_has_value : (left right : RowView) → JoinsOnKey → is_joined ss (left ∷ right ∷ []) (Some j) ≡ true → has_join_value ss j left ≡ true
+  joined_has_value left right on e =
+      let rows : List RowView = left ∷ right ∷ [] in
+      let c = compared cmp.Eq (ref_value ss rows j.left_ref) (ref_value ss rows j.right_ref) e in
+      ap not (ap is_null (sym (left_value left right on)) ∙ not_null rows c.0 c.1)
+    where
+      not_null : (rows : List RowView) → is_null (place_value rows (place_of ss j.left_ref)) ≡ false → is_null (place_value rows (place_of ss j.right_ref)) ≡ false
+          → is_null (place_value rows (join_places ss j).0) ≡ false
+      not_null rows one other = step ((place_of ss j.left_ref).bound_source == 1)
+        where
+          step : (b : Bool) → is_null (place_value rows (cond {A = ColumnPlace × ColumnPlace} b (place_of ss j.right_ref, place_of ss j.left_ref) (place_of ss j.left_ref, place_of ss j.right_ref)).0) ≡ false
+          step true = other
+          step false = one
 
 module _ (ss : List BoundSource) (q : Query) (j : Join) (is_join : q.join ≡ Some j) where
   left_read : IsRead ss q (join_places ss j).0
@@ -137,6 +159,22 @@ module _ (ss : List BoundSource) (q : Query) (j : Join) (is_join : q.join ≡ So
   rights_outside left [] on keys = tt
   rights_outside left (row ∷ rows) on keys = (right_outside left row on keys.0, rights_outside left rows on keys.1)
 
+  -- a left row without a value to join by gives nothing, whatever the right rows are
+  pub no_value_gives_none : (left : RowView) → JoinsOnKey ss j → has_join_value ss j left ≡ false
+      → (rights : List RowView) → flat_map (λ right. answer_of ss q (left ∷ right ∷ [])) rights ≡ []
+  no_value_gives_none left on e [] = refl
+  no_value_gives_none left on e (right ∷ rights) = rw (none right, no_value_gives_none left on e rights) refl
+    where
+      none : (right : RowView) → answer_of ss q (left ∷ right ∷ []) ≡ []
+      none right = no_answer ss q (left ∷ right ∷ []) (λ a.
+          let joined = (and_parts (is_joined ss (left ∷ right ∷ []) q.join) (is_met (ref_value ss (left ∷ right ∷ [])) q.condition) a).0 in
+          both_ways (has_join_value ss j left) e
+          (joined_has_value ss j left right on (subst (λ o. is_joined ss (left ∷ right ∷ []) o ≡ true) is_join joined)))
+
+  -- rows that are alike in what the query names have the same value to join by
+  pub same_join_value : (a b : RowView) → 0 < length ss → AlikeIn ss q 0 a b → join_value ss j a ≡ join_value ss j b
+  same_join_value a b lt alike = agree_one ss q a b lt alike (join_places ss j).0 left_read
+
   -- What is seen of a left row's right rows gives the answers that all right rows give with the
   -- left row.
   pub same_rights : (a b : RowView) (seen : List RowView) (rows : List Row) → join_fault ss j ≡ None → 1 < length ss → AlikeIn ss q 0 a b
@@ -156,4 +194,4 @@ module _ (ss : List BoundSource) (q : Query) (j : Join) (is_join : q.join ≡ So
       ∙ sym (flat_map_map (λ right. answer_of ss q (b ∷ right ∷ [])) (row_view_of (schema_at ss 1)) rows)
     where
       same_value : join_value ss j a ≡ join_value ss j b
-      same_value = agree_one ss q a b (omega arith) alike (join_places ss j).0 left_read
+      same_value = same_join_value a b (omega arith) alike

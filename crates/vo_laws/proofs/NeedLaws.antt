@@ -18,7 +18,7 @@ use Rattle.vo_spec.specs.Trees.{RowTree}
 use Rattle.vo_spec.specs.Scans.{is_empty_interval, seen}
 use Rattle.vo_spec.specs.Pruning.{prune_tree}
 use Rattle.vo_spec.specs.Representation.{Represents}
-use Rattle.vo_spec.specs.Needs.{uncut_need, right_need, meets_left, seen_row_view, needs, tables_used, same_table, tree_at}
+use Rattle.vo_spec.specs.Needs.{uncut_need, has_join_value, right_need, meets_left, seen_row_view, needs, tables_used, same_table, tree_at}
 use Rattle.vo_spec.specs.Honest.{Stored, RepresentTables, catalog_of, stored_tree, trees_for, honest_trees}
 use Rattle.vo_laws.specs.FittingTables.{FitTables}
 use Rattle.vo_laws.proofs.RepresentationLaws.{stands}
@@ -38,7 +38,7 @@ pub needs_by_seen : (ss : List BoundSource) (q : Query) (trees others : List Row
 needs_by_seen ss q trees others same = ap needs_of same
   where
     rights : Option (List SeenRow) → List Need
-    rights o = flat_map (λ j. map (right_need ss q j) (filter (meets_left ss q) (map (seen_row_view (schema_at ss 0) (uncut_need ss q).columns) (unwrap_or o [])))) (option_to_list q.join)
+    rights o = flat_map (λ j. map (right_need ss q j) (filter (has_join_value ss j) (filter (meets_left ss q) (map (seen_row_view (schema_at ss 0) (uncut_need ss q).columns) (unwrap_or o []))))) (option_to_list q.join)
 
     needs_of : Option (List SeenRow) → List (List Need)
     needs_of o = cond (length (tables_used ss) == 1) ((uncut_need ss q ∷ rights o) ∷ []) ((uncut_need ss q ∷ []) ∷ rights o ∷ [])

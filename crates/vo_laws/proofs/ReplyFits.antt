@@ -1,5 +1,5 @@
 -- The reply of an honest store is within the limits of its bytes.
-use Rattle.std.proofs.Common.{ℕ, ◌≤◌, Bool, true, false, cond, List, [], ◌∷◌, Some, length, map, arith}
+use Rattle.std.proofs.Common.{◌≡◌, ℕ, ◌≤◌, Bool, true, false, cond, List, [], ◌∷◌, Some, length, map, arith}
 use Rattle.std.specs.Prelude.{◌||◌, ◌==◌, find, is_some, bytes_eq}
 use Rattle.std.specs.Option.{option_map_or}
 use Rattle.std.specs.List.{AllByRecursion}
@@ -11,7 +11,7 @@ use Rattle.vo_spec.specs.declared.records.Record.{Record}
 use Rattle.vo_spec.specs.Batches.{FitsBatch}
 use Rattle.vo_spec.specs.Conditions.{Query}
 use Rattle.vo_spec.specs.Results.{BoundSource, bound_source_at, bound_sources, binding_fault}
-use Rattle.vo_spec.specs.Records.{FitsRecord, table_headers}
+use Rattle.vo_spec.specs.Records.{FitsRecord, magic_of, table_headers}
 use Rattle.vo_spec.specs.Journals.{max_signature}
 use Rattle.vo_spec.specs.Parts.{leaf}
 use Rattle.vo_spec.specs.Trees.{RowTree}
@@ -67,9 +67,9 @@ few_wanted q stored = step (is_some (binding_fault (table_headers (catalog_of st
 
 -- The reply to a query, of a store that holds the trees after these batches.
 pub reply_fits : (batches : List (List Command)) (q : Query) (rec : Record) (signature : List ℕ) → AllByRecursion FitsBatch batches
-    → FitsRecord rec → length signature ≤ max_signature → FitsReply (honest_reply q rec signature (honest_trees batches))
+    → FitsRecord rec → rec.magic ≡ magic_of (catalog_of (honest_trees batches)) → length signature ≤ max_signature → FitsReply (honest_reply q rec signature (honest_trees batches))
 unfolding honest_reply
-reply_fits batches q rec signature fits record_fits short =
+reply_fits batches q rec signature fits record_fits magic short =
     let stored : List Stored = honest_trees batches in
     let s = stands batches fits in
     let nss : List (List Need) = needs (bound_sources (table_headers (catalog_of stored)) q) q (trees_for q stored) in
@@ -80,4 +80,5 @@ reply_fits batches q rec signature fits record_fits short =
       catalog = catalog_fits stored (tables_after batches) s.0 s.1;
       count = omega (arith, no_more nss (trees_for q stored), length-map (tables_wanted q (catalog_of stored)) (stored_tree stored));
       trees = each_pruned nss (trees_for q stored) (each_fits (tables_wanted q (catalog_of stored)) stored (honest_trees_fit batches fits));
+      magic = magic;
     }

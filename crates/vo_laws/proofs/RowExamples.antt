@@ -1,6 +1,6 @@
 -- Worked examples of the definitions: bytes of values and keys, refusals of commands, results of
 -- queries.
-use Rattle.std.specs.Prelude.{◌≡◌, refl, ℕ, pos, negsuc, true, List, [], ◌∷◌, Option, Some, None, Ok, Err, codes}
+use Rattle.std.specs.Prelude.{◌≡◌, refl, ℕ, pos, negsuc, true, false, List, [], ◌∷◌, Option, Some, None, Ok, Err, codes}
 use Rattle.vo_spec.specs.declared.values.Kind.TheVariants as kind
 use Rattle.vo_spec.specs.declared.values.Value.{Value}
 use Rattle.vo_spec.specs.declared.values.Value.TheVariants.{Int, Text, Bool as Truth}
@@ -73,13 +73,13 @@ abbrev text : List ℕ → Value
 text = Text
 
 abbrev create : Command
-create = Create (codes "t") (record { name = codes "id"; kind = kind.Int } ∷ record { name = codes "name"; kind = kind.Text } ∷ []) (codes "id")
+create = Create (codes "t") (record { name = codes "id"; kind = kind.Int; nullable = false } ∷ record { name = codes "name"; kind = kind.Text; nullable = false } ∷ []) (codes "id")
 
 abbrev insert : ℕ → List ℕ → Command
 insert id name = Insert (codes "t") (int id ∷ text name ∷ [])
 
 abbrev schema : Schema
-schema = record { columns = record { name = codes "id"; kind = kind.Int } ∷ record { name = codes "name"; kind = kind.Text } ∷ []; key = 0 }
+schema = record { columns = record { name = codes "id"; kind = kind.Int; nullable = false } ∷ record { name = codes "name"; kind = kind.Text; nullable = false } ∷ []; key = 0 }
 
 abbrev row : ℕ → List ℕ → Row
 row id name = record { key = key_of (int id); cells = text name ∷ [] }
@@ -106,15 +106,15 @@ insert_elsewhere : apply (Insert (codes "u") (int 1 ∷ [])) two_rows ≡ Err fa
 unfolding apply
 insert_elsewhere = refl
 
-bool_key : apply (Create (codes "u") (record { name = codes "b"; kind = kind.Bool } ∷ []) (codes "b")) two_rows ≡ Err fault.BadSchema
+bool_key : apply (Create (codes "u") (record { name = codes "b"; kind = kind.Bool; nullable = false } ∷ []) (codes "b")) two_rows ≡ Err fault.BadSchema
 unfolding apply
 bool_key = refl
 
-twice : apply (Create (codes "u") (record { name = codes "b"; kind = kind.Int } ∷ record { name = codes "b"; kind = kind.Text } ∷ []) (codes "b")) two_rows ≡ Err fault.BadSchema
+twice : apply (Create (codes "u") (record { name = codes "b"; kind = kind.Int; nullable = false } ∷ record { name = codes "b"; kind = kind.Text; nullable = false } ∷ []) (codes "b")) two_rows ≡ Err fault.BadSchema
 unfolding apply
 twice = refl
 
-no_key : apply (Create (codes "u") (record { name = codes "b"; kind = kind.Int } ∷ []) (codes "c")) two_rows ≡ Err fault.BadSchema
+no_key : apply (Create (codes "u") (record { name = codes "b"; kind = kind.Int; nullable = false } ∷ []) (codes "c")) two_rows ≡ Err fault.BadSchema
 unfolding apply
 no_key = refl
 
@@ -242,7 +242,7 @@ person id name boss = record { key = key_of (int id); cells = text name ∷ int 
 abbrev people : List Table
 people = record {
   name = codes "e";
-  schema = record { columns = record { name = codes "id"; kind = kind.Int } ∷ record { name = codes "name"; kind = kind.Text } ∷ record { name = codes "boss"; kind = kind.Int } ∷ []; key = 0 };
+  schema = record { columns = record { name = codes "id"; kind = kind.Int; nullable = false } ∷ record { name = codes "name"; kind = kind.Text; nullable = false } ∷ record { name = codes "boss"; kind = kind.Int; nullable = false } ∷ []; key = 0 };
   rows = person 1 (codes "ann") 9 ∷ person 2 (codes "bob") 1 ∷ person 3 (codes "cid") 1 ∷ [];
 } ∷ []
 

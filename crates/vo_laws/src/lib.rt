@@ -20,7 +20,7 @@ ghost use Rattle.vo_spec.specs.Batches.{FitsBatch};
 ghost use Rattle.vo_spec.specs.Fits.{FitsTree};
 ghost use Rattle.vo_spec.specs.Keys.{key_tree};
 ghost use Rattle.vo_spec.specs.Owners.{IsSigned};
-ghost use Rattle.vo_spec.specs.Records.{FitsCatalog, FitsRecord, table_headers, catalog_bytes, catalog_digest};
+ghost use Rattle.vo_spec.specs.Records.{FitsCatalog, FitsRecord, magic_of, table_headers, catalog_bytes, catalog_digest};
 ghost use Rattle.vo_spec.specs.Collides.{Collides};
 ghost use Rattle.vo_spec.specs.Tables.{tables_after};
 ghost use Rattle.vo_spec.specs.Conditions.{Query, FitsQuery};
@@ -60,7 +60,8 @@ pub fn honest_trees_represent_the_tables()
         → FitsRecord (honest_record key version stored) }
     ensures reply_fits { (batches : List (List Command)) (q : Query) (rec : Record)
         (signature : List ℕ) → AllByRecursion FitsBatch batches
-        → FitsRecord rec → length signature ≤ max_signature
+        → FitsRecord rec → rec.magic ≡ magic_of (catalog_of (honest_trees batches))
+        → length signature ≤ max_signature
         → FitsReply (honest_reply q rec signature (honest_trees batches)) }
 {}
 
