@@ -1,12 +1,13 @@
 -- Catalogs that fit are told from their bytes, so two of them with one digest give two strings with
 -- one digest.
-use Rattle.std.proofs.Common.{◌≡◌, ◌≢◌, ℕ, ◌^◌, ◌<◌, ◌≤◌, List, [], ◌∷◌, ◌++◌, length, refl, sym, ap, ◌∙◌, append_assoc, append-nil, arith}
+use Rattle.std.proofs.Common.{◌≡◌, ◌≢◌, ℕ, ◌+◌, ◌^◌, ◌<◌, ◌≤◌, Bool, true, false, cond, List, [], ◌∷◌, ◌++◌, length, refl, sym, ap, ◌∙◌, append_assoc, append-nil, arith}
 use Rattle.std.specs.Prelude.{flat_map}
 use Rattle.std.specs.Int.{w16, w64, from_be_bytes}
 use Rattle.std.specs.List.{AllByRecursion}
 use Rattle.std.proofs.lemmas.Bool.{eq-eqb}
 use Rattle.std.proofs.lemmas.Nat.{from_be_bytes-to_be_bytes_2, from_be_bytes-to_be_bytes_8}
 use Rattle.vo_spec.specs.declared.values.Kind.{Kind}
+use Rattle.vo_spec.specs.declared.values.Kind.TheVariants as kind
 use Rattle.vo_spec.specs.declared.tables.Column.{Column}
 use Rattle.vo_spec.specs.declared.records.CatalogTable.{CatalogTable}
 use Rattle.vo_spec.specs.declared.records.Catalog.{Catalog}
@@ -14,7 +15,7 @@ use Rattle.vo_spec.specs.Collides.{Collides}
 use Rattle.vo_spec.specs.Bytes.{u16_bytes, u64_bytes, short_string}
 use Rattle.vo_spec.specs.Values.{type_byte}
 use Rattle.vo_spec.specs.Tables.{max_tables}
-use Rattle.vo_spec.specs.Batches.{list_bytes, column_bytes}
+use Rattle.vo_spec.specs.Batches.{list_bytes, column_bytes, column_type}
 use Rattle.vo_spec.specs.Records.{catalog_table_bytes, catalog_bytes, catalog_digest, FitsCatalogTable, FitsCatalog}
 use Rattle.vo_laws.proofs.ConditionLaws.{same_kind_is}
 use Rattle.vo_laws.proofs.ValueOrder.{number_length}
@@ -70,22 +71,34 @@ short_told a b r s e =
 kind_told : (a b : Kind) → type_byte a ≡ type_byte b → a ≡ b
 kind_told a b e = sym (same_kind_is a b (eq-eqb (type_byte a) (type_byte b) e))
 
+type_small : (k : Kind) → type_byte k < 128
+type_small kind.Int = omega arith
+type_small kind.Text = omega arith
+type_small kind.Bool = omega arith
+
+type_told : (k l : Kind) (m n : Bool) → cond m (128 + type_byte k) (type_byte k) ≡ cond n (128 + type_byte l) (type_byte l) → (k ≡ l) × (m ≡ n)
+type_told k l true true e = (kind_told k l (omega arith), refl)
+type_told k l true false e = let small : type_byte l < 128 = type_small l in absurd (omega arith)
+type_told k l false true e = let small : type_byte k < 128 = type_small k in absurd (omega arith)
+type_told k l false false e = (kind_told k l e, refl)
+
 abbrev Anything : Column → Type 0
 Anything c = Unit {0}
 
-abbrev column : List ℕ → Kind → Column
-column name kind = record { name = name; kind = kind }
+abbrev column : List ℕ → Kind → Bool → Column
+column name kind nullable = record { name = name; kind = kind; nullable = nullable }
 
-same_column : (m n : List ℕ) (k l : Kind) → m ≡ n → k ≡ l → column m k ≡ column n l
-same_column m n k l a b = rw (a, b) refl
+same_column : (a b : List ℕ) (k l : Kind) (m n : Bool) → a ≡ b → k ≡ l → m ≡ n → column a k m ≡ column b l n
+same_column a b k l m n e f g = rw (e, f, g) refl
 
 column_told : Told column_bytes Anything
 column_told c d r s c_fits d_fits e =
-    let p = short_told c.name d.name (type_byte c.kind ∷ r) (type_byte d.kind ∷ s)
-    (sym (append_assoc (short_string c.name) (type_byte c.kind ∷ []) r) ∙ e ∙ append_assoc (short_string d.name) (type_byte d.kind ∷ []) s) in
-    let byte : type_byte c.kind ≡ type_byte d.kind = cc in
+    let p = short_told c.name d.name (column_type c ∷ r) (column_type d ∷ s)
+    (sym (append_assoc (short_string c.name) (column_type c ∷ []) r) ∙ e ∙ append_assoc (short_string d.name) (column_type d ∷ []) s) in
+    let byte : column_type c ≡ column_type d = cc in
     let behind : r ≡ s = cc in
-    (same_column c.name d.name c.kind d.kind p.0 (kind_told c.kind d.kind byte), behind)
+    let types = type_told c.kind d.kind c.nullable d.nullable byte in
+    (same_column c.name d.name c.kind d.kind c.nullable d.nullable p.0 types.0 types.1, behind)
 
 no_limits : (cs : List Column) → AllByRecursion Anything cs
 no_limits [] = tt

@@ -12,7 +12,7 @@ use Rattle.std.proofs.lemmas.List.Elements.{All-from_recursion}
 use Rattle.vo_spec.specs.declared.values.Kind.{Kind}
 use Rattle.vo_spec.specs.declared.values.Kind.TheVariants as kind
 use Rattle.vo_spec.specs.declared.values.Value.{Value}
-use Rattle.vo_spec.specs.declared.values.Value.TheVariants.{Int, Text, Bool as Truth}
+use Rattle.vo_spec.specs.declared.values.Value.TheVariants.{Null, Int, Text, Bool as Truth}
 use Rattle.vo_spec.specs.declared.values.Row.{Row}
 use Rattle.vo_spec.specs.declared.tables.Column.{Column}
 use Rattle.vo_spec.specs.declared.tables.Table.{Table}
@@ -20,8 +20,8 @@ use Rattle.vo_spec.specs.declared.tables.Command.TheVariants.{Create, Insert}
 use Rattle.vo_spec.specs.declared.tables.CommandFault.{CommandFault}
 use Rattle.vo_spec.specs.declared.tables.CommandFault.TheVariants.{TableExists, NoTable, BadSchema, TooManyTables}
 use Rattle.vo_spec.specs.Firsts.{first_of}
-use Rattle.vo_spec.specs.Values.{kind_of, same_kind, key_of, key_lt, FitsValue, IsInRange, IsKeyOf, is_text}
-use Rattle.vo_spec.specs.Tables.{max_tables, max_rows, max_key, value_at, column_at, column_number, has_column, has_twice, are_of_kinds, TableHeader, table_header_of, table_header_named, is_bad_schema, insert_tests, on_table, refusal, row_of, put_row, table_named, put_table}
+use Rattle.vo_spec.specs.Values.{same_kind, is_null, is_of_kind, key_of, key_lt, FitsValue, IsInRange, IsKeyOf, is_text}
+use Rattle.vo_spec.specs.Tables.{max_tables, max_rows, max_key, value_at, column_at, column_number, column_named, has_column, has_twice, are_of_kinds, allows, allow_each, TableHeader, table_header_of, table_header_named, is_bad_schema, insert_tests, on_table, refusal, row_of, put_row, table_named, put_table}
 use Rattle.vo_spec.specs.Batches.{FitCounted, FitsCommand}
 use Rattle.vo_spec.specs.Records.{FitsSchema}
 use Rattle.vo_spec.specs.Fits.{FitsRow}
@@ -31,7 +31,6 @@ use Rattle.vo_laws.specs.FittingTables.{HasKinds, FitsTable, names_of, FitTables
 use Rattle.vo_laws.proofs.KeyOrder.{same_key, key_lt_lt}
 use Rattle.vo_laws.proofs.ListLaws.{each_weaker, each_both, each_map, each_mapped}
 use Rattle.vo_laws.proofs.ValueOrder.{number_length}
-use Rattle.vo_laws.proofs.ConditionLaws.{same_kind_is}
 
 pub not_false : (b : Bool) → not b ≡ false → b ≡ true
 not_false true e = refl
@@ -60,6 +59,8 @@ table_header_found name (t ∷ tables) = step (bytes_eq t.name name) (table_head
 pub record IsInsertable (t : Table) (values : List Value) : Type 0 where
   pub arity : length values ≡ length t.schema.columns
   pub kinds : are_of_kinds t.schema.columns values ≡ true
+  pub given : is_null (value_at values t.schema.key) ≡ false
+  pub allowed : allow_each t.schema.columns values ≡ true
   pub short : length (key_of (value_at values t.schema.key)) ≤ max_key
   pub room : length t.rows < max_rows
 
@@ -83,19 +84,22 @@ pub insertable : (name : List ℕ) (values : List Value) (tables : List Table) �
     → (t : Table) → table_named name tables ≡ Some t → IsInsertable t values
 insertable name values tables e t found =
     let tests = tests_fail name (insert_tests values) tables e t found in
+    let given = or_parts (is_null (value_at values t.schema.key)) (not (allow_each t.schema.columns values)) tests.1.1.0 in
     record {
       arity = eqb-true (length values) (length t.schema.columns) (not_false (length values == length t.schema.columns) tests.0);
       kinds = not_false (are_of_kinds t.schema.columns values) tests.1.0;
-      short = ltb-false max_key (length (key_of (value_at values t.schema.key))) tests.1.1.0;
-      room = leb-false max_rows (length t.rows) tests.1.1.1.0;
+      given = given.0;
+      allowed = not_false (allow_each t.schema.columns values) given.1;
+      short = ltb-false max_key (length (key_of (value_at values t.schema.key))) tests.1.1.1.0;
+      room = leb-false max_rows (length t.rows) tests.1.1.1.1.0;
     }
 
 kind_there : (columns : List Column) (values : List Value) (i : ℕ) → are_of_kinds columns values ≡ true → i < length columns
-    → same_kind (column_at columns i).kind (kind_of (value_at values i)) ≡ true
+    → is_of_kind (column_at columns i).kind (value_at values i) ≡ true
 kind_there [] values i e lt = absurd (omega arith)
 kind_there (c ∷ columns) [] i e lt = absurd (cc)
-kind_there (c ∷ columns) (v ∷ values) zero e lt = (and_parts (same_kind c.kind (kind_of v)) (are_of_kinds columns values) e).0
-kind_there (c ∷ columns) (v ∷ values) (suc i) e lt = kind_there columns values i (and_parts (same_kind c.kind (kind_of v)) (are_of_kinds columns values) e).1 (omega arith)
+kind_there (c ∷ columns) (v ∷ values) zero e lt = (and_parts (is_of_kind c.kind v) (are_of_kinds columns values) e).0
+kind_there (c ∷ columns) (v ∷ values) (suc i) e lt = kind_there columns values i (and_parts (is_of_kind c.kind v) (are_of_kinds columns values) e).1 (omega arith)
 
 value_there : (values : List Value) (i : ℕ) → AllByRecursion FitsValue values → FitsValue (value_at values i)
 value_there [] i all = tt
@@ -103,22 +107,24 @@ value_there (v ∷ values) zero all = all.0
 value_there (v ∷ values) (suc i) all = value_there values i all.1
 
 in_range : (v : Value) → FitsValue v → IsInRange v
+in_range Null fits = tt
 in_range (Int z) fits = fits
 in_range (Text s) fits = tt
 in_range (Truth b) fits = tt
 
-key_of_kind : (k : Kind) (v : Value) → kind_of v ≡ k → same_kind k kind.Bool ≡ false → IsInRange v → IsKeyOf k (key_of v)
-key_of_kind kind.Int (Int z) e other fits = (z, fits, refl)
-key_of_kind kind.Int (Text s) e other fits = absurd (cc)
-key_of_kind kind.Int (Truth b) e other fits = absurd (cc)
-key_of_kind kind.Text v e other fits = tt
-key_of_kind kind.Bool v e other fits = absurd (cc)
+key_of_kind : (k : Kind) (v : Value) → is_of_kind k v ≡ true → is_null v ≡ false → same_kind k kind.Bool ≡ false → IsInRange v → IsKeyOf k (key_of v)
+key_of_kind kind.Int Null e given other fits = absurd (cc)
+key_of_kind kind.Int (Int z) e given other fits = (z, fits, refl)
+key_of_kind kind.Int (Text s) e given other fits = absurd (cc)
+key_of_kind kind.Int (Truth b) e given other fits = absurd (cc)
+key_of_kind kind.Text v e given other fits = tt
+key_of_kind kind.Bool v e given other fits = absurd (cc)
 
 pub key_inserted : (t : Table) (values : List Value) → FitsSchema t.schema → AllByRecursion FitsValue values → IsInsertable t values
     → IsKeyOf (key_kind t.schema) (row_of t.schema values).key
 key_inserted t values schema fits is =
     key_of_kind (key_kind t.schema) (value_at values t.schema.key)
-    (same_kind_is (key_kind t.schema) (kind_of (value_at values t.schema.key)) (kind_there t.schema.columns values t.schema.key is.kinds schema.key_in))
+    (kind_there t.schema.columns values t.schema.key is.kinds schema.key_in) is.given
     (not-true (same_kind (key_kind t.schema) kind.Bool) schema.key_kind)
     (in_range (value_at values t.schema.key) (value_there values t.schema.key fits))
 
@@ -130,28 +136,46 @@ kinds_removed [] [] zero e = refl
 kinds_removed [] [] (suc k) e = refl
 kinds_removed [] (v ∷ values) k e = absurd (cc)
 kinds_removed (c ∷ columns) [] k e = absurd (cc)
-kinds_removed (c ∷ columns) (v ∷ values) zero e = (and_parts (same_kind c.kind (kind_of v)) (are_of_kinds columns values) e).1
+kinds_removed (c ∷ columns) (v ∷ values) zero e = (and_parts (is_of_kind c.kind v) (are_of_kinds columns values) e).1
 kinds_removed (c ∷ columns) (v ∷ values) (suc k) e =
-    let p = and_parts (same_kind c.kind (kind_of v)) (are_of_kinds columns values) e in
-    and_from (same_kind c.kind (kind_of v)) (are_of_kinds (remove columns k) (remove values k)) p.0 (kinds_removed columns values k p.1)
+    let p = and_parts (is_of_kind c.kind v) (are_of_kinds columns values) e in
+    and_from (is_of_kind c.kind v) (are_of_kinds (remove columns k) (remove values k)) p.0 (kinds_removed columns values k p.1)
 
-is_key : (k : Kind) (v : Value) → kind_of v ≡ k → same_kind k kind.Bool ≡ false → FitsValue v → length (key_of v) ≤ max_key
+allow_none : (columns : List Column) → allow_each columns [] ≡ true
+allow_none [] = refl
+allow_none (c ∷ columns) = refl
+
+allowed_removed : (columns : List Column) (values : List Value) (k : ℕ) → allow_each columns values ≡ true
+    → allow_each (remove columns k) (remove values k) ≡ true
+allowed_removed [] values zero e = refl
+allowed_removed [] values (suc k) e = refl
+allowed_removed (c ∷ columns) [] zero e = allow_none columns
+allowed_removed (c ∷ columns) [] (suc k) e = refl
+allowed_removed (c ∷ columns) (v ∷ values) zero e = (and_parts (allows c v) (allow_each columns values) e).1
+allowed_removed (c ∷ columns) (v ∷ values) (suc k) e =
+    let p = and_parts (allows c v) (allow_each columns values) e in
+    and_from (allows c v) (allow_each (remove columns k) (remove values k)) p.0 (allowed_removed columns values k p.1)
+
+is_key : (k : Kind) (v : Value) → is_of_kind k v ≡ true → is_null v ≡ false → same_kind k kind.Bool ≡ false → FitsValue v → length (key_of v) ≤ max_key
     → is_key_of k (key_of v) ≡ true
-is_key kind.Int (Int z) e other fits short = eq-eqb (length (key_of (Int z))) 8 (number_length _)
-is_key kind.Int (Text s) e other fits short = absurd (cc)
-is_key kind.Int (Truth b) e other fits short = absurd (cc)
-is_key kind.Text (Int z) e other fits short = absurd (cc)
-is_key kind.Text (Text s) e other fits short = and_from (nat_le (length s) 255) (is_text s) (le-leb (length s) 255 short) fits
-is_key kind.Text (Truth b) e other fits short = absurd (cc)
-is_key kind.Bool v e other fits short = absurd (cc)
+is_key kind.Int Null e given other fits short = absurd (cc)
+is_key kind.Int (Int z) e given other fits short = eq-eqb (length (key_of (Int z))) 8 (number_length _)
+is_key kind.Int (Text s) e given other fits short = absurd (cc)
+is_key kind.Int (Truth b) e given other fits short = absurd (cc)
+is_key kind.Text Null e given other fits short = absurd (cc)
+is_key kind.Text (Int z) e given other fits short = absurd (cc)
+is_key kind.Text (Text s) e given other fits short = and_from (nat_le (length s) 255) (is_text s) (le-leb (length s) 255 short) fits
+is_key kind.Text (Truth b) e given other fits short = absurd (cc)
+is_key kind.Bool v e given other fits short = absurd (cc)
 
 pub row_has_kinds : (t : Table) (values : List Value) → FitsSchema t.schema → AllByRecursion FitsValue values → IsInsertable t values
     → HasKinds t.schema (row_of t.schema values)
 row_has_kinds t values schema fits is = record {
   key = is_key (key_kind t.schema) (value_at values t.schema.key)
-      (same_kind_is (key_kind t.schema) (kind_of (value_at values t.schema.key)) (kind_there t.schema.columns values t.schema.key is.kinds schema.key_in))
+      (kind_there t.schema.columns values t.schema.key is.kinds schema.key_in) is.given
       (not-true (same_kind (key_kind t.schema) kind.Bool) schema.key_kind) (value_there values t.schema.key fits) is.short;
   cells = kinds_removed t.schema.columns values t.schema.key is.kinds;
+  allowed = allowed_removed t.schema.columns values t.schema.key is.allowed;
 }
 
 -- A table is dropped.
@@ -244,7 +268,10 @@ unfolding FitsCommand
 created_fit name columns key tables fits e before =
     let tests = none_holds
     ((is_some (table_header_named name (map table_header_of tables)), TableExists) ∷ (nat_le max_tables (length (map table_header_of tables)), TooManyTables) ∷ (is_bad_schema columns key, BadSchema) ∷ []) e in
-    let schema = or_parts (has_twice (map (λ (c : Column). c.name) columns) || not (has_column columns key)) (same_kind (column_at columns (column_number columns key)).kind kind.Bool) tests.1.1.0 in
+    let given = or_parts
+    (has_twice (map (λ (c : Column). c.name) columns) || not (has_column columns key) || same_kind (column_named columns key).kind kind.Bool)
+    (column_named columns key).nullable tests.1.1.0 in
+    let schema = or_parts (has_twice (map (λ (c : Column). c.name) columns) || not (has_column columns key)) (same_kind (column_named columns key).kind kind.Bool) given.0 in
     let names = or_parts (has_twice (map (λ (c : Column). c.name) columns)) (not (has_column columns key)) schema.0 in
     let few : length (map table_header_of tables) < max_tables = leb-false max_tables (length (map table_header_of tables)) tests.1.0 in
     let made : Table = record { name = name; schema = record { columns = columns; key = column_number columns key }; rows = [] } in
@@ -257,7 +284,8 @@ created_fit name columns key tables fits e before =
               columns = fits.1;
               once = not_from_false (has_twice (map (λ (c : Column). c.name) columns)) names.0;
               key_in = ltb-true (column_number columns key) (length columns) (not_false (has_column columns key) names.1);
-              key_kind = not_from_false (same_kind (column_at columns (column_number columns key)).kind kind.Bool) schema.1;
+              key_kind = not_from_false (same_kind (column_named columns key).kind kind.Bool) schema.1;
+              key_given = not_from_false (column_named columns key).nullable given.1;
             };
             rows = tt;
             kinds = tt;

@@ -10,7 +10,7 @@ use Rattle.vo_spec.specs.declared.values.Row.{Row}
 use Rattle.vo_spec.specs.declared.tables.Column.{Column}
 use Rattle.vo_spec.specs.declared.tables.Schema.{Schema}
 use Rattle.vo_spec.specs.declared.tables.Table.{Table}
-use Rattle.vo_spec.specs.Values.{kind_of, same_kind}
+use Rattle.vo_spec.specs.Values.{is_of_kind}
 use Rattle.vo_spec.specs.Tables.{TableHeader, table_header_of, table_header_named, rows_named, cell_number, are_of_kinds}
 use Rattle.vo_spec.specs.Conditions.{Query}
 use Rattle.vo_spec.specs.Results.{BoundSource, schema_at, no_schema, numbers_from}
@@ -32,7 +32,7 @@ kinds_length : (columns : List Column) (values : List Value) → are_of_kinds co
 kinds_length [] [] e = refl
 kinds_length [] (v ∷ values) e = absurd (cc)
 kinds_length (c ∷ columns) [] e = absurd (cc)
-kinds_length (c ∷ columns) (v ∷ values) e = ap suc (kinds_length columns values (and_parts (same_kind c.kind (kind_of v)) (are_of_kinds columns values) e).1)
+kinds_length (c ∷ columns) (v ∷ values) e = ap suc (kinds_length columns values (and_parts (is_of_kind c.kind v) (are_of_kinds columns values) e).1)
 
 rows_have : (schema : Schema) (rows : List Row) → AllByRecursion (HasKinds schema) rows → AllByRecursion (HasCells (cells_of schema)) rows
 rows_have schema [] all = tt

@@ -14,14 +14,14 @@ use Rattle.vo_spec.specs.declared.needs.Need.{Need}
 use Rattle.vo_spec.specs.declared.cells.Cell.TheVariants.{Shown, Hidden}
 use Rattle.vo_spec.specs.declared.cells.RowPart.TheVariants.{Digest as Closed, Cells}
 use Rattle.vo_spec.specs.declared.cells.PartEntry.{PartEntry}
-use Rattle.vo_spec.specs.Values.{kind_of, same_kind}
-use Rattle.vo_spec.specs.Tables.{are_of_kinds}
+use Rattle.vo_spec.specs.Values.{is_of_kind}
+use Rattle.vo_spec.specs.Tables.{are_of_kinds, allows, allow_each}
 use Rattle.vo_spec.specs.Cells.{cell_digest, row_digest, whole_cells, whole_row, whole_entry}
 use Rattle.vo_spec.specs.Parts.{leaf, entries}
 use Rattle.vo_spec.specs.Trees.{RowTree, digest}
 use Rattle.vo_spec.specs.Pruning.{at_root, is_any, needed_columns, has_column, shown_cell, shown_cells, shown_row, shown_entry, walk_for, is_missing, prune_tree}
 use Rattle.vo_spec.specs.Representation.{Represents}
-use Rattle.vo_spec.specs.Checks.{key_kind, is_key_of, shows_kind, cells_fit, row_fits, entry_fits, has_shape, table_named, has_table_shape, root_fault}
+use Rattle.vo_spec.specs.Checks.{key_kind, is_key_of, cell_fits, cells_fit, row_fits, entry_fits, has_shape, table_named, has_table_shape, root_fault}
 use Rattle.vo_spec.specs.Honest.{Stored, RepresentTables, catalog_of, stored_tree}
 use Rattle.vo_laws.specs.Columns.{HaveColumns}
 use Rattle.vo_laws.proofs.ListLaws.{each_weaker}
@@ -49,33 +49,34 @@ pruned_complete n needs t rows stands all cells =
 
 -- Shape.
 
-cells_shape : (columns : List Column) (values : List Value) (shown : List ℕ) (column : ℕ) → are_of_kinds columns values ≡ true
+cells_shape : (columns : List Column) (values : List Value) (shown : List ℕ) (column : ℕ) → are_of_kinds columns values ≡ true → allow_each columns values ≡ true
     → cells_fit columns (shown_cells shown column (whole_cells values)) ≡ true
-cells_shape [] [] shown column e = refl
-cells_shape [] (v ∷ values) shown column e = absurd (cc)
-cells_shape (c ∷ columns) [] shown column e = absurd (cc)
-cells_shape (c ∷ columns) (v ∷ values) shown column e =
-    let p = and_parts (same_kind c.kind (kind_of v)) (are_of_kinds columns values) e in
-    and_from (shows_kind c.kind (shown_cell shown column (Shown v))) (cells_fit columns (shown_cells shown (column + 1) (whole_cells values)))
-    (step (has_column shown column) p.0) (cells_shape columns values shown (column + 1) p.1)
+cells_shape [] [] shown column e allowed = refl
+cells_shape [] (v ∷ values) shown column e allowed = absurd (cc)
+cells_shape (c ∷ columns) [] shown column e allowed = absurd (cc)
+cells_shape (c ∷ columns) (v ∷ values) shown column e allowed =
+    let p = and_parts (is_of_kind c.kind v) (are_of_kinds columns values) e in
+    let q = and_parts (allows c v) (allow_each columns values) allowed in
+    and_from (cell_fits c (shown_cell shown column (Shown v))) (cells_fit columns (shown_cells shown (column + 1) (whole_cells values)))
+    (step (has_column shown column) p.0 q.0) (cells_shape columns values shown (column + 1) p.1 q.1)
   where
-    step : (b : Bool) → same_kind c.kind (kind_of v) ≡ true → shows_kind c.kind (cond b (Shown v) (Hidden (cell_digest column (Shown v)))) ≡ true
-    step true f = f
-    step false f = refl
+    step : (b : Bool) → is_of_kind c.kind v ≡ true → allows c v ≡ true → cell_fits c (cond b (Shown v) (Hidden (cell_digest column (Shown v)))) ≡ true
+    step true f g = and_from (is_of_kind c.kind v) (allows c v) f g
+    step false f g = refl
 
 row_shape : (schema : Schema) (columns : List ℕ) (values : List Value) → are_of_kinds (remove schema.columns schema.key) values ≡ true
-    → row_fits schema (shown_row columns (whole_row values)) ≡ true
-row_shape schema columns values e = step (is_any columns)
+    → allow_each (remove schema.columns schema.key) values ≡ true → row_fits schema (shown_row columns (whole_row values)) ≡ true
+row_shape schema columns values e allowed = step (is_any columns)
   where
     step : (b : Bool) → row_fits schema (cond b (Cells (shown_cells columns 0 (whole_cells values))) (Closed (row_digest (Cells (whole_cells values))))) ≡ true
-    step true = cells_shape (remove schema.columns schema.key) values columns 0 e
+    step true = cells_shape (remove schema.columns schema.key) values columns 0 e allowed
     step false = refl
 
 entries_shape : (schema : Schema) (needs : List Need) (rows : List Row) → AllByRecursion (HasKinds schema) rows
     → AllByRecursion (λ (e : PartEntry). entry_fits schema (shown_entry needs e) ≡ true) (map whole_entry rows)
 entries_shape schema needs [] all = tt
 entries_shape schema needs (row ∷ rows) all = (
-  and_from (is_key_of (key_kind schema) row.key) (row_fits schema (shown_row (needed_columns needs row.key) (whole_row row.cells))) all.0.key (row_shape schema (needed_columns needs row.key) row.cells all.0.cells),
+  and_from (is_key_of (key_kind schema) row.key) (row_fits schema (shown_row (needed_columns needs row.key) (whole_row row.cells))) all.0.key (row_shape schema (needed_columns needs row.key) row.cells all.0.cells all.0.allowed),
   entries_shape schema needs rows all.1,
 )
 

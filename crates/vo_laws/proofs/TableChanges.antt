@@ -13,8 +13,8 @@ use Rattle.vo_spec.specs.declared.tables.Schema.{Schema}
 use Rattle.vo_spec.specs.declared.tables.Table.{Table}
 use Rattle.vo_spec.specs.declared.tables.SetPart.{SetPart}
 use Rattle.vo_spec.specs.declared.tables.Command.TheVariants.{Insert, Update}
-use Rattle.vo_spec.specs.Values.{kind_of, same_kind, key_lt, FitsValue}
-use Rattle.vo_spec.specs.Tables.{max_rows, column_at, column_number, cell_number, has_twice, are_of_kinds, table_header_of, is_key, suits, update_tests, refusal, row_of, put_row, with_rows, CellChange, changed_cells, changed_row, cell_changes, without_row, table_named}
+use Rattle.vo_spec.specs.Values.{is_null, is_of_kind, key_lt, FitsValue}
+use Rattle.vo_spec.specs.Tables.{max_rows, column_at, column_number, column_named, cell_number, has_twice, are_of_kinds, allows, allow_each, table_header_of, is_key, suits, update_tests, refusal, row_of, put_row, with_rows, CellChange, changed_cells, changed_row, cell_changes, without_row, table_named}
 use Rattle.vo_spec.specs.Batches.{FitCounted, FitsSet, FitsCommand}
 use Rattle.vo_spec.specs.Fits.{FitsRow}
 use Rattle.vo_spec.specs.Representation.{AreRising}
@@ -90,15 +90,16 @@ inserted_fit name values tables fits e before =
 -- What is known of an update that no table header refuses.
 
 abbrev pub SetFits : Schema → SetPart → Type 0
-SetFits schema s = (is_key schema s.column ≡ false) × (suits schema.columns s.column s.value ≡ true)
+SetFits schema s =
+    (is_key schema s.column ≡ false) × (suits schema.columns s.column s.value ≡ true) × (allows (column_named schema.columns s.column) s.value ≡ true)
 
 each_passes : {A : Type 0} (test : A → Bool) (xs : List A) → list_all test xs ≡ true → AllByRecursion (λ x. test x ≡ true) xs
 each_passes test [] e = tt
 each_passes test (x ∷ xs) e = let p = and_parts (test x) (list_all test xs) e in (p.0, each_passes test xs p.1)
 
-both_hold : {A : Type 0} (P Q : A → Type 0) (xs : List A) → AllByRecursion P xs → AllByRecursion Q xs → AllByRecursion (λ x. P x × Q x) xs
-both_hold P Q [] all others = tt
-both_hold P Q (x ∷ xs) all others = ((all.0, others.0), both_hold P Q xs all.1 others.1)
+three_hold : {A : Type 0} (P Q R : A → Type 0) (xs : List A) → AllByRecursion P xs → AllByRecursion Q xs → AllByRecursion R xs → AllByRecursion (λ x. P x × Q x × R x) xs
+three_hold P Q R [] ps qs rs = tt
+three_hold P Q R (x ∷ xs) ps qs rs = ((ps.0, qs.0, rs.0), three_hold P Q R xs ps.1 qs.1 rs.1)
 
 pub updatable : (name : List ℕ) (sets : List SetPart) (column : List ℕ) (value : Value) (tables : List Table) → refusal (Update name sets column value) (map table_header_of tables) ≡ None
     → (t : Table) → table_named name tables ≡ Some t → AllByRecursion (SetFits t.schema) sets
@@ -107,9 +108,13 @@ updatable name sets column value tables e t found =
     let sets_ok = or_parts (list_any (λ (s : SetPart). is_key t.schema s.column) sets) (has_twice (map (λ (s : SetPart). s.column) sets)) tests.1.1.0 in
     let kinds = and_parts (list_all (λ (s : SetPart). suits t.schema.columns s.column s.value) sets) (suits t.schema.columns column value)
     (not_false (list_all (λ (s : SetPart). suits t.schema.columns s.column s.value) sets && suits t.schema.columns column value) tests.1.1.1.0) in
-    both_hold (λ (s : SetPart). is_key t.schema s.column ≡ false) (λ (s : SetPart). suits t.schema.columns s.column s.value ≡ true) sets
+    let given = or_parts (is_null value) (not (list_all (λ (s : SetPart). allows (column_named t.schema.columns s.column) s.value) sets)) tests.1.1.1.1.0 in
+    three_hold (λ (s : SetPart). is_key t.schema s.column ≡ false) (λ (s : SetPart). suits t.schema.columns s.column s.value ≡ true)
+    (λ (s : SetPart). allows (column_named t.schema.columns s.column) s.value ≡ true) sets
     (none_any (λ (s : SetPart). is_key t.schema s.column) sets sets_ok.0)
     (each_passes (λ (s : SetPart). suits t.schema.columns s.column s.value) sets kinds.0)
+    (each_passes (λ (s : SetPart). allows (column_named t.schema.columns s.column) s.value) sets
+    (not_false (list_all (λ (s : SetPart). allows (column_named t.schema.columns s.column) s.value) sets) given.1))
 
 -- A value takes another's place.
 
@@ -118,16 +123,25 @@ each_set P [] i x all p = tt
 each_set P (y ∷ xs) zero x all p = (p, all.1)
 each_set P (y ∷ xs) (suc i) x all p = (all.0, each_set P xs i x all.1 p)
 
-kinds_set : (columns : List Column) (values : List Value) (i : ℕ) (v : Value) → are_of_kinds columns values ≡ true → same_kind (column_at columns i).kind (kind_of v) ≡ true
+kinds_set : (columns : List Column) (values : List Value) (i : ℕ) (v : Value) → are_of_kinds columns values ≡ true → is_of_kind (column_at columns i).kind v ≡ true
     → are_of_kinds columns (slice_set values i v) ≡ true
 kinds_set [] [] i v e same = refl
 kinds_set [] (w ∷ values) i v e same = absurd (cc)
 kinds_set (c ∷ columns) [] i v e same = absurd (cc)
 kinds_set (c ∷ columns) (w ∷ values) zero v e same =
-    and_from (same_kind c.kind (kind_of v)) (are_of_kinds columns values) same (and_parts (same_kind c.kind (kind_of w)) (are_of_kinds columns values) e).1
+    and_from (is_of_kind c.kind v) (are_of_kinds columns values) same (and_parts (is_of_kind c.kind w) (are_of_kinds columns values) e).1
 kinds_set (c ∷ columns) (w ∷ values) (suc i) v e same =
-    let p = and_parts (same_kind c.kind (kind_of w)) (are_of_kinds columns values) e in
-    and_from (same_kind c.kind (kind_of w)) (are_of_kinds columns (slice_set values i v)) p.0 (kinds_set columns values i v p.1 same)
+    let p = and_parts (is_of_kind c.kind w) (are_of_kinds columns values) e in
+    and_from (is_of_kind c.kind w) (are_of_kinds columns (slice_set values i v)) p.0 (kinds_set columns values i v p.1 same)
+
+allowed_set : (columns : List Column) (values : List Value) (i : ℕ) (v : Value) → allow_each columns values ≡ true → allows (column_at columns i) v ≡ true
+    → allow_each columns (slice_set values i v) ≡ true
+allowed_set [] values i v e allowed = refl
+allowed_set (c ∷ columns) [] i v e allowed = refl
+allowed_set (c ∷ columns) (w ∷ values) zero v e allowed = and_from (allows c v) (allow_each columns values) allowed (and_parts (allows c w) (allow_each columns values) e).1
+allowed_set (c ∷ columns) (w ∷ values) (suc i) v e allowed =
+    let p = and_parts (allows c w) (allow_each columns values) e in
+    and_from (allows c w) (allow_each columns (slice_set values i v)) p.0 (allowed_set columns values i v p.1 allowed)
 
 -- a column that isn't the key stands at its cell's number among the others
 next_cell : (key n : ℕ) → (n ≡ key → ⊥) → cell_number (suc key) (suc n) ≡ suc (cell_number key n)
@@ -178,7 +192,17 @@ cells_kinds schema (s ∷ sets) cells is e =
     let other : number ≡ schema.key → ⊥ = λ same. both_ways (number == schema.key) is.0.0 (eq-eqb number schema.key same) in
     cells_kinds schema sets (slice_set cells (cell_number schema.key number) s.value) is.1
     (kinds_set (remove schema.columns schema.key) cells (cell_number schema.key number) s.value e
-    (ap (λ (c : Column). same_kind c.kind (kind_of s.value)) (cell_column schema.columns schema.key number other) ∙ is.0.1))
+    (ap (λ (c : Column). is_of_kind c.kind s.value) (cell_column schema.columns schema.key number other) ∙ is.0.1))
+
+cells_allowed : (schema : Schema) (sets : List SetPart) (cells : List Value) → AllByRecursion (SetFits schema) sets → allow_each (remove schema.columns schema.key) cells ≡ true
+    → allow_each (remove schema.columns schema.key) (changed_cells (cell_changes schema sets) cells) ≡ true
+cells_allowed schema [] cells is e = e
+cells_allowed schema (s ∷ sets) cells is e =
+    let number = column_number schema.columns s.column in
+    let other : number ≡ schema.key → ⊥ = λ same. both_ways (number == schema.key) is.0.0 (eq-eqb number schema.key same) in
+    cells_allowed schema sets (slice_set cells (cell_number schema.key number) s.value) is.1
+    (allowed_set (remove schema.columns schema.key) cells (cell_number schema.key number) s.value e
+    (ap (λ (c : Column). allows c s.value) (cell_column schema.columns schema.key number other) ∙ is.0.2))
 
 changed_row_fits : (schema : Schema) (key : List ℕ) (sets : List SetPart) → AllByRecursion FitsSet sets → (row : Row) → FitsRow row → FitsRow (changed_row key (cell_changes schema sets) row)
 changed_row_fits schema key sets fits row is = step (bytes_eq row.key key)
@@ -198,7 +222,11 @@ changed_row_kinds : (schema : Schema) (key : List ℕ) (sets : List SetPart) →
 changed_row_kinds schema key sets suit row is = step (bytes_eq row.key key)
   where
     step : (b : Bool) → HasKinds schema (cond b (record { key = row.key; cells = changed_cells (cell_changes schema sets) row.cells }) row)
-    step true = record { key = is.key; cells = cells_kinds schema sets row.cells suit is.cells }
+    step true = record {
+      key = is.key;
+      cells = cells_kinds schema sets row.cells suit is.cells;
+      allowed = cells_allowed schema sets row.cells suit is.allowed;
+    }
     step false = is
 
 -- Tables.

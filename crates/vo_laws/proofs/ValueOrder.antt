@@ -1,5 +1,5 @@
 -- Keys are in the order of the values that they are keys of.
-use Rattle.std.proofs.Common.{◌≡◌, ℕ, ◌+◌, ◌*◌, ◌^◌, ◌<◌, List, [], ◌∷◌, length, refl, sym, ap, ◌∙◌, arith}
+use Rattle.std.proofs.Common.{◌≡◌, ℕ, ◌+◌, ◌*◌, ◌^◌, ◌<◌, true, false, List, [], ◌∷◌, length, refl, sym, ap, ◌∙◌, arith}
 use Rattle.std.specs.Prelude.{ℤ, pos, negsuc, ◌≤ℤ◌, ◌<ℤ◌, ◌+ℤ◌, ◌-ℤ◌, FitsSigned}
 use Rattle.std.specs.declared.cmp.Ordering.TheVariants.{Less, Equal, Greater}
 use Rattle.std.specs.Ordering.{nat_cmp, int_cmp, ordering_then}
@@ -12,9 +12,9 @@ use Rattle.std.proofs.lemmas.Nat.{from_be_bytes-to_be_bytes_8}
 use Rattle.vo_spec.specs.declared.values.Kind.{Kind}
 use Rattle.vo_spec.specs.declared.values.Kind.TheVariants as kind
 use Rattle.vo_spec.specs.declared.values.Value.{Value}
-use Rattle.vo_spec.specs.declared.values.Value.TheVariants.{Int, Text, Bool as Truth}
+use Rattle.vo_spec.specs.declared.values.Value.TheVariants.{Null, Int, Text, Bool as Truth}
 use Rattle.vo_spec.specs.Bytes.{u64_bytes, u64_of}
-use Rattle.vo_spec.specs.Values.{kind_of, key_of, key_cmp, value_cmp, value_of_key, IsInRange, IsKeyOf}
+use Rattle.vo_spec.specs.Values.{is_null, is_of_kind, key_of, key_cmp, value_cmp, value_of_key, IsInRange, IsKeyOf}
 
 -- What two numbers compare to.
 
@@ -141,20 +141,22 @@ integer_back z fits =
     let back : pos (sign_flipped z) -ℤ pos (2 ^ 63) ≡ z = omega (arith, ints, a.is) in
     rw n (ap Int back)
 
--- A key's value compares with another value of its kind as the keys do.
-pub keys_in_order : (k : Kind) (key : List ℕ) (v : Value) → IsKeyOf k key → kind_of v ≡ k → IsInRange v
+-- A key's value compares with another value of its kind as the keys do, unless that is NULL.
+pub keys_in_order : (k : Kind) (key : List ℕ) (v : Value) → IsKeyOf k key → is_of_kind k v ≡ true → is_null v ≡ false → IsInRange v
     → value_cmp (value_of_key k key) v ≡ key_cmp key (key_of v)
-keys_in_order kind.Int key (Int y) i e fits =
+keys_in_order kind.Int key Null i e given fits = absurd (cc)
+keys_in_order kind.Int key (Int y) i e given fits =
     ap (λ k. value_cmp (value_of_key kind.Int k) (Int y)) i.2
     ∙ ap (λ v. value_cmp v (Int y)) (integer_back i.0 i.1)
     ∙ integers_in_order i.0 y i.1 fits
     ∙ ap (λ k. key_cmp k (key_of (Int y))) (sym i.2)
-keys_in_order kind.Int key (Text s) i e fits = absurd (cc)
-keys_in_order kind.Int key (Truth b) i e fits = absurd (cc)
-keys_in_order kind.Text key (Int y) i e fits = absurd (cc)
-keys_in_order kind.Text key (Text s) i e fits = refl
-keys_in_order kind.Text key (Truth b) i e fits = absurd (cc)
-keys_in_order kind.Bool key v i e fits = absurd i
+keys_in_order kind.Int key (Text s) i e given fits = absurd (cc)
+keys_in_order kind.Int key (Truth b) i e given fits = absurd (cc)
+keys_in_order kind.Text key Null i e given fits = absurd (cc)
+keys_in_order kind.Text key (Int y) i e given fits = absurd (cc)
+keys_in_order kind.Text key (Text s) i e given fits = refl
+keys_in_order kind.Text key (Truth b) i e given fits = absurd (cc)
+keys_in_order kind.Bool key v i e given fits = absurd i
 
 -- A key is that of the value that it gives.
 pub key_again : (k : Kind) (key : List ℕ) → IsKeyOf k key → key_of (value_of_key k key) ≡ key

@@ -4,17 +4,19 @@ use Rattle.std.specs.List.{AllByRecursion}
 use Rattle.vo_spec.specs.declared.values.Row.{Row}
 use Rattle.vo_spec.specs.declared.tables.Schema.{Schema}
 use Rattle.vo_spec.specs.declared.tables.Table.{Table}
-use Rattle.vo_spec.specs.Tables.{max_tables, max_rows, are_of_kinds}
+use Rattle.vo_spec.specs.Tables.{max_tables, max_rows, are_of_kinds, allow_each}
 use Rattle.vo_spec.specs.Names.{FitsName}
 use Rattle.vo_spec.specs.Records.{FitsSchema}
 use Rattle.vo_spec.specs.Fits.{FitsRow}
 use Rattle.vo_spec.specs.Representation.{AreRising}
 use Rattle.vo_spec.specs.Checks.{key_kind, is_key_of}
 
--- the row's key is one of its column's kind, and its other values are of their columns' kinds
+-- the row's key is one of its column's kind, and its other values are of their columns' kinds, NULL
+-- in nullable columns alone
 pub record HasKinds (schema : Schema) (row : Row) : Type 0 where
   pub key : is_key_of (key_kind schema) row.key ≡ true
   pub cells : are_of_kinds (remove schema.columns schema.key) row.cells ≡ true
+  pub allowed : allow_each (remove schema.columns schema.key) row.cells ≡ true
 
 pub record FitsTable (t : Table) : Type 0 where
   pub name : FitsName t.name
