@@ -11,26 +11,15 @@ use crate::lent_entry::LentEntry;
 use lms_sign::{PublicKey, verify};
 use owner_roots::Roots;
 use stored_tables::StoredTables;
-use version_record::{catalog_digest, record_bytes};
-use vo_spec::{Digest, Record};
-
-fn record_with(id: [u8; 16], version: u64, catalog: Digest) -> Record
-    ensures value { result ≡ record { id = id; version = version; catalog = catalog } }
-    ensures fits { FitsRecord result }
-{
-    Record {
-        id,
-        version,
-        catalog,
-    }
-}
+use version_record::record_bytes;
+use vo_spec::Record;
 
 /// The record of these tables as this version. It takes no memory.
 #[tactic(auto, unfolding(vo_spec::specs::Honest::honest_record))]
 pub fn record_of(key: &PublicKey, version: u64, tables: &StoredTables) -> Record
     ensures { result ≡ honest_record key.now version tables.now }
 {
-    record_with(*key.id(), version, tables.catalog_digest())
+    tables.record(*key.id(), version)
 }
 
 /// The record of these roots.
@@ -40,7 +29,7 @@ pub(crate) fn record_of_roots(key: &PublicKey, roots: &Roots) -> Record
     ensures value { result ≡ record_of_roots key.now roots.now }
     ensures fits { FitsRecord result }
 {
-    record_with(*key.id(), roots.version, catalog_digest(&roots.catalog))
+    version_record::record_of(*key.id(), roots.version, &roots.catalog)
 }
 
 /// Whether the entry's record is that of these tables as this version, signed by the version's

@@ -4,7 +4,7 @@ use Rattle.std.specs.Prelude.{not, flat_map, slice_get, is_none}
 use Rattle.std.specs.List.{list_any}
 use Rattle.std.proofs.lemmas.Bool.{ne_eqb, eq-eqb, le-leb, lt-leb}
 use Rattle.std.proofs.Math.Dec.{leb-suc-suc}
-use Rattle.vo_spec.specs.declared.values.Kind.{Kind}
+use Rattle.tree_stream.specs.declared.target.CellKind.{CellKind}
 use Rattle.vo_spec.specs.declared.needs.Need.{Need}
 use Rattle.vo_spec.specs.declared.cells.Cell.{Cell}
 use Rattle.vo_spec.specs.declared.cells.Cell.TheVariants.{Shown, Hidden}
@@ -99,7 +99,7 @@ lacks_at column (suc i) (Hidden d ∷ cells) =
 lacks_at column (suc i) (Shown v ∷ cells) = lacks_later column i cells (lacks_at (column + 1) i cells)
 
 -- with one more column named
-hides_more : (kinds : List Kind) (c : ℕ) (named : List ℕ) (column : ℕ) (cells : List Cell)
+hides_more : (kinds : List CellKind) (c : ℕ) (named : List ℕ) (column : ℕ) (cells : List Cell)
     → (cells_findings kinds (c ∷ named) column cells).is_missing ≡ (hides_at c column cells || (cells_findings kinds named column cells).is_missing)
 unfolding hides_at
 hides_more kinds c named column [] = refl
@@ -108,12 +108,12 @@ hides_more kinds c named column (Hidden d ∷ cells) =
     ∙ or_swap (eqb c column) (has_column named column) (hides_at c (column + 1) cells) (cells_findings kinds named (column + 1) cells).is_missing
 hides_more kinds c named column (Shown v ∷ cells) = hides_more kinds c named (column + 1) cells
 
-hides_none : (kinds : List Kind) (column : ℕ) (cells : List Cell) → (cells_findings kinds [] column cells).is_missing ≡ false
+hides_none : (kinds : List CellKind) (column : ℕ) (cells : List Cell) → (cells_findings kinds [] column cells).is_missing ≡ false
 hides_none kinds column [] = refl
 hides_none kinds column (Hidden d ∷ cells) = hides_none kinds (column + 1) cells
 hides_none kinds column (Shown v ∷ cells) = hides_none kinds (column + 1) cells
 
-row_missing : (kinds : List Kind) (named : List ℕ) (row : RowPart) → hides_any named row ≡ (row_findings kinds named row).is_missing
+row_missing : (kinds : List CellKind) (named : List ℕ) (row : RowPart) → hides_any named row ≡ (row_findings kinds named row).is_missing
 row_missing kinds named (Closed d) = any_named named
 row_missing kinds [] (Cells cells) = sym (hides_none kinds 0 cells)
 row_missing kinds (c ∷ named) (Cells cells) =
@@ -134,12 +134,12 @@ entries_missing target (e ∷ es) =
 
 -- Cells that are shown.
 
-cells_surplus : (kinds : List Kind) (named : List ℕ) (column : ℕ) (cells : List Cell) → shows_surplus named column cells ≡ (cells_findings kinds named column cells).has_surplus
+cells_surplus : (kinds : List CellKind) (named : List ℕ) (column : ℕ) (cells : List Cell) → shows_surplus named column cells ≡ (cells_findings kinds named column cells).has_surplus
 cells_surplus kinds named column [] = refl
 cells_surplus kinds named column (Hidden d ∷ cells) = cells_surplus kinds named (column + 1) cells
 cells_surplus kinds named column (Shown v ∷ cells) = ap (λ (b : Bool). not (has_column named column) || b) (cells_surplus kinds named (column + 1) cells)
 
-row_surplus : (kinds : List Kind) (named : List ℕ) (row : RowPart) → row_has_surplus named row ≡ (row_findings kinds named row).has_surplus
+row_surplus : (kinds : List CellKind) (named : List ℕ) (row : RowPart) → row_has_surplus named row ≡ (row_findings kinds named row).has_surplus
 row_surplus kinds named (Closed d) = refl
 row_surplus kinds named (Cells cells) = ap (λ (b : Bool). not (is_any named) || b) (cells_surplus kinds named 0 cells)
 

@@ -4,7 +4,7 @@ use Rattle.std.specs.Prelude.{not, slice_get}
 use Rattle.std.specs.List.{list_any}
 use Rattle.std.proofs.lemmas.Bool.{cases_eq, ne_eqb, eq-eqb, le-leb, false≢true}
 use Rattle.vo_spec.specs.declared.values.Value.{Value}
-use Rattle.vo_spec.specs.declared.values.Kind.{Kind}
+use Rattle.tree_stream.specs.declared.target.CellKind.{CellKind}
 use Rattle.vo_spec.specs.declared.needs.SeenRow.{SeenRow}
 use Rattle.vo_spec.specs.declared.cells.Cell.{Cell}
 use Rattle.vo_spec.specs.declared.cells.Cell.TheVariants.{Shown, Hidden}
@@ -53,7 +53,7 @@ not_among column (c ∷ columns) rises =
     ap (λ (b : Bool). b || has_column columns column) (ne_eqb c column (λ e. omega (arith, e, rises.0)))
     ∙ not_among column columns later
 
-module _ (kinds : List Kind) where
+module _ (kinds : List CellKind) where
   -- a column before the first cell says nothing
   without_column : (c : ℕ) (named : List ℕ) (column : ℕ) (cells : List Cell) → c < column → cells_findings kinds (c ∷ named) column cells ≡ cells_findings kinds named column cells
   without_column c named column [] lt = refl
@@ -91,7 +91,7 @@ beyond_moved column cell cells columns =
     let moved : column + suc (length cells) ≡ column + 1 + length cells = omega arith in
     ap (λ (n : ℕ). list_any (λ c. leb n c) columns) moved
 
-module _ (kinds : List Kind) where
+module _ (kinds : List CellKind) where
   abbrev found : ℕ → List Cell → List ℕ → CellFindings
   found column cells columns = cells_findings kinds columns column cells
 

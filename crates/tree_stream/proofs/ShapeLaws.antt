@@ -7,7 +7,7 @@ use Rattle.std.proofs.lemmas.Bool.{ne_eqb}
 use Rattle.std.proofs.lemmas.List.{length-map}
 use Rattle.std.proofs.lemmas.List.Folds.{list_all-append}
 use Rattle.std.proofs.Math.Dec.{eqb-suc-suc}
-use Rattle.vo_spec.specs.declared.values.Kind.{Kind}
+use Rattle.tree_stream.specs.declared.target.CellKind.{CellKind}
 use Rattle.vo_spec.specs.declared.tables.Column.{Column}
 use Rattle.vo_spec.specs.declared.tables.Schema.{Schema}
 use Rattle.vo_spec.specs.declared.needs.Need.{Need}
@@ -16,21 +16,21 @@ use Rattle.vo_spec.specs.declared.cells.Cell.TheVariants.{Shown, Hidden}
 use Rattle.vo_spec.specs.declared.cells.RowPart.{RowPart}
 use Rattle.vo_spec.specs.declared.cells.RowPart.TheVariants.{Digest as Closed, Cells}
 use Rattle.vo_spec.specs.declared.cells.PartEntry.{PartEntry}
-use Rattle.vo_spec.specs.Checks.{is_key_of, key_kind, shows_kind, cells_fit, row_fits, entry_fits, has_shape}
+use Rattle.vo_spec.specs.Checks.{is_key_of, key_kind, cell_fits, cells_fit, row_fits, entry_fits, has_shape}
 use Rattle.vo_spec.specs.Fits.{FitsEntry, FitsPart, FitsEach}
 use Rattle.vo_spec.specs.Parts.{stub, leaf, inner, none, more, count, entries, entries_in}
 use Rattle.vo_spec.specs.Scans.{is_empty_interval}
 use Rattle.vo_spec.specs.Trees.{RowTree, RowTrees}
 use Rattle.tree_stream.specs.declared.target.Target.{Target}
-use Rattle.tree_stream.specs.Findings.{target_of, fits_kind, cell_findings, cells_findings, row_findings, columns_at, entry_findings, entries_findings, visits_child, child_visits, tree_findings, children_findings}
+use Rattle.tree_stream.specs.Findings.{cell_kind_of, target_of, shows_kind, fits_kind, cell_findings, cells_findings, row_findings, columns_at, entry_findings, entries_findings, visits_child, child_visits, tree_findings, children_findings}
 
 -- Cells.
 
-abbrev kinds_of : List Column → List Kind
-kinds_of columns = map (λ (c : Column). c.kind) columns
+abbrev kinds_of : List Column → List CellKind
+kinds_of columns = map cell_kind_of columns
 
 -- the kinds from this number on are those of the columns
-abbrev AreFrom : List Kind → ℕ → List Column → Type 0
+abbrev AreFrom : List CellKind → ℕ → List Column → Type 0
 AreFrom kinds column columns = (i : ℕ) → slice_get kinds (column + i) ≡ slice_get (kinds_of columns) i
 
 and_swap : (a b c : Bool) → (a && (b && c)) ≡ (b && (a && c))
@@ -45,7 +45,11 @@ shape_of_cell : (is_named fits : Bool) (cell : Cell) → (cell_findings is_named
 shape_of_cell is_named fits (Hidden d) = refl
 shape_of_cell is_named fits (Shown v) = refl
 
-cells_shape : (kinds : List Kind) (named : List ℕ) (column : ℕ) (columns : List Column) (cells : List Cell) → AreFrom kinds column columns
+same_fit : (c : Column) (cell : Cell) → shows_kind (cell_kind_of c) cell ≡ cell_fits c cell
+same_fit c (Shown v) = refl
+same_fit c (Hidden d) = refl
+
+cells_shape : (kinds : List CellKind) (named : List ℕ) (column : ℕ) (columns : List Column) (cells : List Cell) → AreFrom kinds column columns
     → cells_fit columns cells ≡ (eqb (length cells) (length columns) && (cells_findings kinds named column cells).has_shape)
 cells_shape kinds named column [] [] are = refl
 cells_shape kinds named column [] (cell ∷ cells) are =
@@ -59,11 +63,11 @@ cells_shape kinds named column (c ∷ columns) (cell ∷ cells) are =
     let moved : column + 1 + i ≡ column + suc i = omega arith in
     ap (slice_get kinds) moved ∙ are (suc i) in
     let at_zero : column ≡ column + 0 = omega arith in
-    let this : fits_kind kinds column cell ≡ shows_kind c.kind cell =
-    ap (λ k. option_map_or (λ k. shows_kind k cell) k true) (ap (slice_get kinds) at_zero ∙ are 0) in
-    ap (λ (b : Bool). shows_kind c.kind cell && b) (cells_shape kinds named (column + 1) columns cells later)
-    ∙ and_swap (shows_kind c.kind cell) as_many others
-    ∙ and_two as_many (eqb (suc (length cells)) (suc (length columns))) (shows_kind c.kind cell && others) (cells_findings kinds named column (cell ∷ cells)).has_shape
+    let this : fits_kind kinds column cell ≡ cell_fits c cell =
+    ap (λ k. option_map_or (λ k. shows_kind k cell) k true) (ap (slice_get kinds) at_zero ∙ are 0) ∙ same_fit c cell in
+    ap (λ (b : Bool). cell_fits c cell && b) (cells_shape kinds named (column + 1) columns cells later)
+    ∙ and_swap (cell_fits c cell) as_many others
+    ∙ and_two as_many (eqb (suc (length cells)) (suc (length columns))) (cell_fits c cell && others) (cells_findings kinds named column (cell ∷ cells)).has_shape
     (sym (eqb-suc-suc (length cells) (length columns)))
     (ap (λ (b : Bool). b && others) (sym (shape_of_cell _ (fits_kind kinds column cell) cell ∙ this)))
 

@@ -2,7 +2,7 @@
 use Rattle.std.proofs.Common.{true, ◌≡◌, ℕ, zero, suc, ◌+◌, ◌-◌, ◌<◌, ◌≤◌, Bool, eqb, leb, ltb, List, [], ◌∷◌, ◌++◌, length, take, drop, Option, Some, None, refl, sym, ap, ◌∙◌, append-nil, arith, inl, inr, ◌⊎◌}
 use Rattle.std.specs.Prelude.{not, option_map}
 use Rattle.std.specs.Result.{result_ok}
-use Rattle.std.proofs.lemmas.Bool.{cases_Bool, lt-ltb, ltb-false}
+use Rattle.std.proofs.lemmas.Bool.{cases_Bool, eqb-true, lt-ltb, ltb-false}
 use Rattle.std.proofs.lemmas.List.{length-drop}
 use Rattle.tree_stream.specs.declared.target.Target.{Target}
 use Rattle.vo_spec.specs.Bytes.{u16_of}
@@ -127,19 +127,24 @@ short_value : (bytes : List ℕ) → length bytes < value_size bytes → any_val
 unfolding any_value_at value_at value_size int_at
 short_value [] short = refl
 short_value (kind ∷ bytes) short =
-    elim (cases_Bool (eqb kind 1)) [
-      | inl t ↦
-          let size : value_size (kind ∷ bytes) ≡ 9 = rw t refl in
-          rw (t, lt-ltb (length bytes) 8 (omega (arith, short, size))) refl
-      | inr f ↦ elim (cases_Bool (eqb kind 2)) [
+    elim (cases_Bool (eqb kind 0)) [
+      | inl n ↦
+          let size : value_size (kind ∷ bytes) ≡ 1 = ap (λ (k : ℕ). value_size (k ∷ bytes)) (eqb-true kind 0 n) in
+          absurd (omega (arith, short, size))
+      | inr n ↦ elim (cases_Bool (eqb kind 1)) [
         | inl t ↦
-            let size : value_size (kind ∷ bytes) ≡ suc (string_size max_text bytes) = rw (f, t) refl in
-            rw (f, t) (short_text bytes (omega (arith, short, size)))
-        | inr g ↦ elim (cases_Bool (eqb kind 3)) [
+            let size : value_size (kind ∷ bytes) ≡ 9 = rw t refl in
+            rw (n, t, lt-ltb (length bytes) 8 (omega (arith, short, size))) refl
+        | inr f ↦ elim (cases_Bool (eqb kind 2)) [
           | inl t ↦
-              let size : value_size (kind ∷ bytes) ≡ 2 = rw (f, g, t) refl in
-              rw (f, g, t) (no_truth bytes (omega (arith, short, size)))
-          | inr h ↦ rw (f, g, h) refl
+              let size : value_size (kind ∷ bytes) ≡ suc (string_size max_text bytes) = rw (f, t) refl in
+              rw (n, f, t) (short_text bytes (omega (arith, short, size)))
+          | inr g ↦ elim (cases_Bool (eqb kind 3)) [
+            | inl t ↦
+                let size : value_size (kind ∷ bytes) ≡ 2 = rw (f, g, t) refl in
+                rw (n, f, g, t) (no_truth bytes (omega (arith, short, size)))
+            | inr h ↦ rw (n, f, g, h) refl
+          ]
         ]
       ]
     ]

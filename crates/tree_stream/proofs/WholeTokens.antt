@@ -5,7 +5,7 @@ use Rattle.std.specs.Result.{result_ok}
 use Rattle.std.proofs.lemmas.Bool.{cases_lt, cases_Bool, ltb-false, lt-ltb, le-ltb, leb-true, le-leb, lt-leb, ne_eqb}
 use Rattle.std.proofs.lemmas.List.{take_at, take-append-drop, take-append-le, drop-append-le, length-append, length-take-le, length-drop}
 use Rattle.vo_spec.specs.declared.values.Value.{Value}
-use Rattle.vo_spec.specs.declared.values.Value.TheVariants.{Int, Text, Bool as Truth}
+use Rattle.vo_spec.specs.declared.values.Value.TheVariants.{Null, Int, Text, Bool as Truth}
 use Rattle.vo_spec.specs.declared.cells.Cell.{Cell}
 use Rattle.vo_spec.specs.declared.cells.Cell.TheVariants.{Shown}
 use Rattle.vo_spec.specs.declared.cells.RowPart.{RowPart}
@@ -133,6 +133,7 @@ text_whole s rest few =
 
 value_whole : (v : Value) (rest : List ℕ) → FitsValue v → value_size (value_bytes v ++ rest) ≡ length (value_bytes v)
 unfolding value_size
+value_whole Null rest fits = refl
 value_whole (Int z) rest fits = sym (ap (λ (n : ℕ). suc n) (u64_length _))
 value_whole (Text s) rest fits = ap (λ (n : ℕ). suc n) (text_whole s rest (text_short s fits))
 value_whole (Truth b) rest fits = refl
@@ -217,25 +218,30 @@ pub value_none : (bytes more : List ℕ) → length bytes ≡ value_size bytes �
 unfolding any_value_at value_at value_size int_at
 value_none [] more len none = absurd (omega (arith, len))
 value_none (kind ∷ bytes) more len none =
-    elim (cases_Bool (eqb kind 1)) [
-      | inl t ↦
-          let size : value_size (kind ∷ bytes) ≡ 9 = rw t refl in
-          let eight : 8 ≤ length bytes = omega (arith, len, size) in
-          let read : any_value_at (kind ∷ bytes) ≡ Some (Int (cast_signed w64 (u64_of (take 8 bytes))), drop 8 bytes) = rw (t, le-ltb (length bytes) 8 eight) refl in
+    elim (cases_Bool (eqb kind 0)) [
+      | inl n ↦
+          let read : any_value_at (kind ∷ bytes) ≡ Some (Null, bytes) = rw n refl in
           absurd cc
-      | inr f ↦ elim (cases_Bool (eqb kind 2)) [
+      | inr n ↦ elim (cases_Bool (eqb kind 1)) [
         | inl t ↦
-            let size : value_size (kind ∷ bytes) ≡ suc (string_size max_text bytes) = rw (f, t) refl in
-            let old : result_ok (text_at bytes) ≡ any_value_at (kind ∷ bytes) = rw (f, t) refl in
-            let new : any_value_at (kind ∷ bytes ++ more) ≡ result_ok (text_at (bytes ++ more)) = rw (f, t) refl in
-            new ∙ text_none bytes more (omega (arith, len, size)) (old ∙ none)
-        | inr g ↦ elim (cases_Bool (eqb kind 3)) [
+            let size : value_size (kind ∷ bytes) ≡ 9 = rw t refl in
+            let eight : 8 ≤ length bytes = omega (arith, len, size) in
+            let read : any_value_at (kind ∷ bytes) ≡ Some (Int (cast_signed w64 (u64_of (take 8 bytes))), drop 8 bytes) = rw (n, t, le-ltb (length bytes) 8 eight) refl in
+            absurd cc
+        | inr f ↦ elim (cases_Bool (eqb kind 2)) [
           | inl t ↦
-              let size : value_size (kind ∷ bytes) ≡ 2 = rw (f, g, t) refl in
-              let old : result_ok (bool_at bytes) ≡ any_value_at (kind ∷ bytes) = rw (f, g, t) refl in
-              let new : any_value_at (kind ∷ bytes ++ more) ≡ result_ok (bool_at (bytes ++ more)) = rw (f, g, t) refl in
-              new ∙ bool_none bytes more (omega (arith, len, size)) (old ∙ none)
-          | inr h ↦ rw (f, g, h) refl
+              let size : value_size (kind ∷ bytes) ≡ suc (string_size max_text bytes) = rw (f, t) refl in
+              let old : result_ok (text_at bytes) ≡ any_value_at (kind ∷ bytes) = rw (n, f, t) refl in
+              let new : any_value_at (kind ∷ bytes ++ more) ≡ result_ok (text_at (bytes ++ more)) = rw (n, f, t) refl in
+              new ∙ text_none bytes more (omega (arith, len, size)) (old ∙ none)
+          | inr g ↦ elim (cases_Bool (eqb kind 3)) [
+            | inl t ↦
+                let size : value_size (kind ∷ bytes) ≡ 2 = rw (f, g, t) refl in
+                let old : result_ok (bool_at bytes) ≡ any_value_at (kind ∷ bytes) = rw (n, f, g, t) refl in
+                let new : any_value_at (kind ∷ bytes ++ more) ≡ result_ok (bool_at (bytes ++ more)) = rw (n, f, g, t) refl in
+                new ∙ bool_none bytes more (omega (arith, len, size)) (old ∙ none)
+            | inr h ↦ rw (n, f, g, h) refl
+          ]
         ]
       ]
     ]

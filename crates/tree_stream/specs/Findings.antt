@@ -4,7 +4,6 @@
 use Rattle.std.specs.Prelude.{ℕ, ◌+◌, ◌≤◌, Bool, true, false, not, ◌&&◌, ◌||◌, ◌==◌, nat_le, if◌then◌else◌, List, [], ◌∷◌, ◌++◌, length, map, remove, slice_get, Option, Some, None}
 use Rattle.std.specs.List.{list_any}
 use Rattle.std.specs.Option.{option_map_or}
-use Rattle.vo_spec.specs.declared.values.Kind.{Kind}
 use Rattle.vo_spec.specs.declared.values.Kind.TheVariants as kind
 use Rattle.vo_spec.specs.declared.tables.Column.{Column}
 use Rattle.vo_spec.specs.declared.tables.Schema.{Schema}
@@ -18,13 +17,18 @@ use Rattle.vo_spec.specs.declared.cells.PartEntry.{PartEntry}
 use Rattle.vo_spec.specs.Parts.{stub, leaf, inner, none, more}
 use Rattle.vo_spec.specs.Trees.{RowTree, RowTrees}
 use Rattle.vo_spec.specs.Scans.{in_interval, is_empty_interval, visits}
-use Rattle.vo_spec.specs.Checks.{is_key_of, key_kind, shows_kind}
+use Rattle.vo_spec.specs.Checks.{is_key_of, key_kind}
 use Rattle.vo_spec.specs.Pruning.{is_any, has_column}
+use Rattle.vo_spec.specs.Values.{is_null, is_of_kind}
+use Rattle.tree_stream.specs.declared.target.CellKind.{CellKind}
 use Rattle.tree_stream.specs.declared.target.Target.{Target}
 use Rattle.tree_stream.specs.declared.findings.Findings.{Findings}
 use Rattle.tree_stream.specs.declared.findings.CellFindings.{CellFindings}
 
 -- Targets.
+
+abbrev pub cell_kind_of : Column → CellKind
+cell_kind_of c = record { kind = c.kind; nullable = c.nullable }
 
 -- the rows of a need, in a tree of the table of this schema
 abbrev pub target_of : Need → Schema → Target
@@ -32,7 +36,7 @@ target_of need schema = record {
   interval = need.interval;
   columns = need.columns;
   key_kind = key_kind schema;
-  cell_kinds = map (λ (c : Column). c.kind) (remove schema.columns schema.key);
+  cell_kinds = map cell_kind_of (remove schema.columns schema.key);
 }
 
 -- no rows, in a tree of any table
@@ -75,8 +79,13 @@ combine_cells f g = record {
 abbrev pub columns_at : Target → List ℕ → List ℕ
 columns_at target key = if in_interval target.interval key then target.columns else []
 
--- the cell of this column shows no value, or one of the column's kind, if there is such a column
-abbrev pub fits_kind : List Kind → ℕ → Cell → Bool
+-- the cell shows no value, or one of the kind, and NULL only where it may
+abbrev pub shows_kind : CellKind → Cell → Bool
+shows_kind k (Shown value) = is_of_kind k.kind value && (k.nullable || not (is_null value))
+shows_kind k (Hidden digest) = true
+
+-- the cell of this column shows what the column may hold, if there is such a column
+abbrev pub fits_kind : List CellKind → ℕ → Cell → Bool
 fits_kind kinds column cell = option_map_or (λ k. shows_kind k cell) (slice_get kinds column) true
 
 -- a cell, where its column is named or isn't, and its kind is the column's or isn't
@@ -92,7 +101,7 @@ cell_findings is_named fits (Shown v) =
     }
 
 -- cells, the first of them that of this column
-abbrev pub cells_findings : List Kind → List ℕ → ℕ → List Cell → CellFindings
+abbrev pub cells_findings : List CellKind → List ℕ → ℕ → List Cell → CellFindings
 cells_findings kinds named column [] = no_cell_findings
 cells_findings kinds named column (cell ∷ cells) =
     combine_cells (cell_findings (has_column named column) (fits_kind kinds column cell) cell)
@@ -100,7 +109,7 @@ cells_findings kinds named column (cell ∷ cells) =
 
 -- a row that stands as so many cells: a named column may be none of them, or none may be named at
 -- all
-abbrev pub row_head_findings : List Kind → List ℕ → ℕ → CellFindings
+abbrev pub row_head_findings : List CellKind → List ℕ → ℕ → CellFindings
 row_head_findings kinds named count = record {
   is_missing = list_any (λ column. nat_le count column) named;
   has_surplus = not (is_any named);
@@ -124,7 +133,7 @@ entry_findings_by target key f = record {
       else [];
 }
 
-abbrev pub row_findings : List Kind → List ℕ → RowPart → CellFindings
+abbrev pub row_findings : List CellKind → List ℕ → RowPart → CellFindings
 row_findings kinds named (Closed d) = closed_row_findings named
 row_findings kinds named (Cells cells) =
     combine_cells (row_head_findings kinds named (length cells))

@@ -12,7 +12,7 @@ use crate::target::Target;
 use key_intervals::in_interval;
 use row_bytes::is_key_of;
 use std::alloc::{AllocError, Global};
-use vo_spec::{Key, Kind, List, SeenRow, Value};
+use vo_spec::{Key, List, SeenRow, Value};
 
 pub(crate) fn empty_findings(alloc: Global) -> Findings
     ensures { result ≡ no_findings }
@@ -57,7 +57,7 @@ pub(crate) fn has_column(columns: &[u8], column: u8) -> bool
 }
 
 /// Of a row that stands as so many cells, before them.
-pub(crate) fn begin_cells(alloc: Global, kinds: &[Kind], named: &[u8], count: u8) -> CellFindings
+pub(crate) fn begin_cells(alloc: Global, kinds: &[CellKind], named: &[u8], count: u8) -> CellFindings
     ensures { result ≡ row_head_findings kinds.now named.now count }
 {
     CellFindings {

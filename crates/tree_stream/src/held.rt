@@ -11,6 +11,7 @@ fn value_length(value: &Value) -> usize
     ensures { result ≡ length (value_bytes value.now) }
 {
     match value {
+        Value::Null => 1,
         Value::Int(_) => 9,
         Value::Text(text) => 3 + text.as_bytes().len(),
         Value::Bool(_) => 2,

@@ -25,4 +25,4 @@ mod tokens;
 pub use findings::{Findings, Summary};
 pub use laws::{findings_judge_proofs, trees_have_their_summary};
 pub use stream::TreeStream;
-pub use target::Target;
+pub use target::{CellKind, Target};

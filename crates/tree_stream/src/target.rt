@@ -1,11 +1,17 @@
 //! What a tree is read for.
 ghost use Rattle.std.specs.Prelude.{◌≡◌, ◌++◌, map, remove, IfOk, OnOk};
-ghost use Rattle.vo_spec.specs.declared.tables.Column.{Column as PlainColumn};
-ghost use Rattle.tree_stream.specs.Findings.{no_target, target_of};
+ghost use Rattle.tree_stream.specs.Findings.{cell_kind_of, no_target, target_of};
 
 use std::alloc::{AllocError, Global};
 use table_list::key_kind;
 use vo_spec::{Bound, Column, Interval, Key, Kind, List, Need, Schema};
+
+/// What the cells of a column may hold.
+#[derive(Clone, Copy, Debug)]
+pub struct CellKind {
+    pub kind: Kind,
+    pub nullable: bool,
+}
 
 /// The rows of an interval of keys, with the columns that are named, in a tree of a table. Columns
 /// have their numbers among those that aren't the key.
@@ -15,8 +21,8 @@ pub struct Target {
     pub columns: List<u8>,
     /// The kind of the table's key.
     pub key_kind: Kind,
-    /// The kinds of its other columns.
-    pub cell_kinds: List<Kind>,
+    /// What the cells of its other columns may hold.
+    pub cell_kinds: List<CellKind>,
 }
 
 impl Target {
@@ -50,10 +56,10 @@ impl Target {
     }
 }
 
-/// The kinds of the columns but the key.
-fn cell_kinds(alloc: Global, schema: &Schema) -> Result<Vec<Kind>, AllocError>
+/// What the cells of the columns but the key may hold.
+fn cell_kinds(alloc: Global, schema: &Schema) -> Result<Vec<CellKind>, AllocError>
     ensures { IfOk result (λ kinds. kinds.items
-        ≡ map (λ (c : PlainColumn). c.kind) (remove schema.now.columns schema.now.key)) }
+        ≡ map cell_kind_of (remove schema.now.columns schema.now.key)) }
 {
     let columns = schema.columns.as_slice();
     let key = schema.key as usize;
@@ -67,12 +73,14 @@ fn cell_kinds(alloc: Global, schema: &Schema) -> Result<Vec<Kind>, AllocError>
     Ok(kinds)
 }
 
-fn push_kinds(kinds: &mut Vec<Kind>, columns: &[Column]) -> Result<(), AllocError>
-    ensures { OnOk result (kinds.new.items
-        ≡ kinds.old.items ++ map (λ (c : PlainColumn). c.kind) columns.now) }
+fn push_kinds(kinds: &mut Vec<CellKind>, columns: &[Column]) -> Result<(), AllocError>
+    ensures { OnOk result (kinds.new.items ≡ kinds.old.items ++ map cell_kind_of columns.now) }
 {
     for column in columns {
-        kinds.push(column.kind)?;
+        kinds.push(CellKind {
+            kind: column.kind,
+            nullable: column.nullable,
+        })?;
     }
     Ok(())
 }

@@ -3,7 +3,7 @@ use Rattle.tree_stream.proofs.PlaceLaws.{cell_added}
 use Rattle.tree_stream.proofs.ValueLaws.{values_grown}
 use Rattle.std.proofs.Common.{List, ℕ, ◌++◌, ap, ◌∙◌}
 use Rattle.vo_spec.specs.Pruning.{has_column}
-use Rattle.vo_spec.specs.declared.values.Kind.{Kind}
+use Rattle.tree_stream.specs.declared.target.CellKind.{CellKind}
 use Rattle.tree_stream.specs.Findings.{columns_at, fits_kind}
 use Rattle.tree_stream.specs.Parsing.{cell_of}
 use Rattle.tree_stream.proofs.Remainders.{same_with}
@@ -21,7 +21,7 @@ returns-clause-ok c =
     c.requires.form c.requires.fits
     (c.add.ensures ∙ ap (λ (d : List ℕ). row.hasher ++ d) (c.as_bytes.ensures.value ∙ c.digest_of.ensures))
     (c.has_column-is_named.ensures ∙ ap (λ (named : List ℕ). has_column named row.column) (c.columns_at-named.ensures ∙ ap (columns_at target) c.as_slice.ensures.value))
-    (c.fits_kind-fits.ensures ∙ ap (λ (kinds : List Kind). fits_kind kinds row.column cell) c.as_slice-2.ensures)
+    (c.fits_kind-fits.ensures ∙ ap (λ (kinds : List CellKind). fits_kind kinds row.column cell) c.as_slice-2.ensures)
     c.in_ok-add_cell.ensures.sum))
 
 pub returns-clause-stands : goal.returns-clause-stands

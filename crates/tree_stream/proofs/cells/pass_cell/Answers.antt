@@ -3,7 +3,7 @@ use Rattle.std.proofs.lemmas.Grind.{common_steps}
 use Rattle.vo_spec.specs.Cells.{cell_digest}
 use Rattle.vo_spec.specs.Pruning.{has_column}
 use Rattle.vo_spec.specs.TreeBytes.{cell_form}
-use Rattle.vo_spec.specs.declared.values.Kind.{Kind}
+use Rattle.tree_stream.specs.declared.target.CellKind.{CellKind}
 use Rattle.tree_stream.specs.Findings.{fits_kind}
 use Rattle.tree_stream.specs.Parsing.{cell_of}
 use Rattle.tree_stream.specs.Remaining.{rest_of_cells}
@@ -29,7 +29,7 @@ returns-clause-ok c =
     (cell_step context.target row.leaf.hasher context.last_key.items row.leaf.left (row.hasher ++ digests) sum row.column row.findings c.add_cell.new.findings c.has_column-is_named.result c.fits_kind-fits.result row.left cell (cell_form cell) rest
     refl c.requires.fits is_sum
     (c.has_column-is_named.ensures ∙ ap (λ (named : List ℕ). has_column named row.column) c.requires.named)
-    (c.fits_kind-fits.ensures ∙ ap (λ (kinds : List Kind). fits_kind kinds row.column cell) c.as_slice.ensures)
+    (c.fits_kind-fits.ensures ∙ ap (λ (kinds : List CellKind). fits_kind kinds row.column cell) c.as_slice.ensures)
     c.in_ok-add_cell.ensures.sum)
 
 pub returns-clause-room : goal.returns-clause-room

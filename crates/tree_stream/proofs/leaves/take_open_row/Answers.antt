@@ -2,7 +2,7 @@ use Rattle.tree_stream.specs.declared.findings.CellFindings.{CellFindings}
 use Rattle.tree_stream.proofs.KeepingLaws.{open_row_begun as open_row_kept}
 use Rattle.tree_stream.proofs.PlaceLaws.{open_row_begun}
 use Rattle.std.proofs.Common.{List, ℕ, ◌∷◌, [], ◌++◌, ap, ◌∙◌}
-use Rattle.vo_spec.specs.declared.values.Kind.{Kind}
+use Rattle.tree_stream.specs.declared.target.CellKind.{CellKind}
 use Rattle.tree_stream.specs.Findings.{row_head_findings, columns_at}
 use Rattle.tree_stream.proofs.Remainders.{same_with}
 use Rattle.tree_stream.proofs.Steps.{ok_then, open_step}
@@ -16,7 +16,7 @@ returns-clause-ok c =
     (open_step target c.args.leaf.hasher c.args.context.now.last_key.items c.args.leaf.left c.args.count c.add.new.self c.begin_cells-found.result rest c.requires
     (c.add.ensures ∙ ap (λ (h : List ℕ). h ++ 2 ∷ c.args.count ∷ []) c.new-hasher.ensures)
     (c.begin_cells-found.ensures
-    ∙ ap (λ (kinds : List Kind). row_head_findings kinds c.columns_at-named.result.now c.args.count) c.as_slice-2.ensures
+    ∙ ap (λ (kinds : List CellKind). row_head_findings kinds c.columns_at-named.result.now c.args.count) c.as_slice-2.ensures
     ∙ ap (λ (named : List ℕ). row_head_findings target.cell_kinds named c.args.count) (c.columns_at-named.ensures ∙ ap (columns_at target) c.as_slice.ensures.value))))
 
 pub returns-clause-stands : goal.returns-clause-stands
