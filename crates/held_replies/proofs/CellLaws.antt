@@ -2,7 +2,7 @@
 use Rattle.std.proofs.Common.{◌≡◌, ◌≢◌, ℕ, zero, suc, ◌<◌, ◌≤◌, Bool, true, false, ◌&&◌, List, [], ◌∷◌, ◌++◌, length, take, drop, remove, refl, sym, ap, ◌∙◌, arith}
 use Rattle.vo_spec.specs.declared.cells.Cell.{Cell}
 use Rattle.vo_spec.specs.declared.tables.Column.{Column}
-use Rattle.vo_spec.specs.Checks.{cells_fit, shows_kind}
+use Rattle.vo_spec.specs.Checks.{cell_fits, cells_fit}
 
 and_false : (a b : Bool) → false ≡ b → false ≡ (a && b)
 and_false true b e = e
@@ -12,7 +12,7 @@ pub unlike_lengths : (columns : List Column) (cells : List Cell) → length colu
 unlike_lengths [] [] other = absurd (other refl)
 unlike_lengths [] (v ∷ cells) other = refl
 unlike_lengths (c ∷ columns) [] other = refl
-unlike_lengths (c ∷ columns) (v ∷ cells) other = and_false (shows_kind c.kind v) _ (unlike_lengths columns cells (λ e. other (ap suc e)))
+unlike_lengths (c ∷ columns) (v ∷ cells) other = and_false (cell_fits c v) _ (unlike_lengths columns cells (λ e. other (ap suc e)))
 
 and_and : (a b c : Bool) → (a && (b && c)) ≡ ((a && b) && c)
 and_and true b c = refl
@@ -25,8 +25,8 @@ parted zero columns others cells h g = refl
 parted (suc key) [] others cells h g = absurd (omega arith)
 parted (suc key) (c ∷ columns) others [] h g = absurd (omega arith)
 parted (suc key) (c ∷ columns) others (v ∷ cells) h g =
-    ap (λ (b : Bool). shows_kind c.kind v && b) (parted key columns others cells (omega arith) (omega arith))
-    ∙ and_and (shows_kind c.kind v) (cells_fit (take key columns) (take key cells)) (cells_fit others (drop key cells))
+    ap (λ (b : Bool). cell_fits c v && b) (parted key columns others cells (omega arith) (omega arith))
+    ∙ and_and (cell_fits c v) (cells_fit (take key columns) (take key cells)) (cells_fit others (drop key cells))
 
 pub parted_fit : (key : ℕ) (columns : List Column) (cells : List Cell) → key < length columns → key ≤ length cells
     → cells_fit (remove columns key) cells ≡ (cells_fit (take key columns) (take key cells) && cells_fit (drop (suc key) columns) (drop key cells))
@@ -37,7 +37,7 @@ short : (key : ℕ) (columns others : List Column) (cells : List Cell) → key <
 short zero columns others cells h g = absurd (omega arith)
 short (suc key) [] others cells h g = absurd (omega arith)
 short (suc key) (c ∷ columns) others [] h g = refl
-short (suc key) (c ∷ columns) others (v ∷ cells) h g = sym (and_false (shows_kind c.kind v) _ (sym (short key columns others cells (omega arith) (omega arith))))
+short (suc key) (c ∷ columns) others (v ∷ cells) h g = sym (and_false (cell_fits c v) _ (sym (short key columns others cells (omega arith) (omega arith))))
 
 pub short_of_columns : (key : ℕ) (columns : List Column) (cells : List Cell) → key < length columns → length cells < key
     → cells_fit (remove columns key) cells ≡ false

@@ -2,16 +2,16 @@
 ghost use Rattle.std.specs.Prelude.{◌≡◌, remove};
 ghost use Rattle.std.specs.List.{list_all};
 ghost use Rattle.vo_spec.specs.Parts.{entries_in};
-ghost use Rattle.vo_spec.specs.Checks.{shows_kind, cells_fit, row_fits, entry_fits, has_shape};
+ghost use Rattle.vo_spec.specs.Checks.{cell_fits, cells_fit, row_fits, entry_fits, has_shape};
 ghost use Rattle.mb_tree.specs.View.{part_of, parts_of};
 
 use mb_tree::PartTree;
 use row_bytes::is_key_of;
-use table_list::{key_kind, takes};
-use vo_spec::{Cell, Column, Kind, PartEntry, RowPart, Schema};
+use table_list::{allows, key_kind, takes};
+use vo_spec::{Cell, Column, PartEntry, RowPart, Schema};
 
 /// Whether the keys of the tree's leaves are keys of the schema, its rows have the schema's cells,
-/// and those that are shown are of their columns' kinds.
+/// and those that are shown are of their columns' kinds, NULL in nullable columns alone.
 // Inlined where children are asked: most are stubs.
 #[inline(always)]
 #[cycle(shape)]
@@ -74,7 +74,7 @@ fn row_cells_fit(schema: &Schema, cells: &[Cell<'_>]) -> bool
     cells_fit(&columns[..key], &cells[..key]) && cells_fit(&columns[key + 1..], &cells[key..])
 }
 
-/// Whether there is a cell for each column, those that are shown of its kind.
+/// Whether there is a cell for each column, those that are shown of what it may have.
 #[tactic(auto, using(crate::proofs::CellLaws::unlike_lengths))]
 fn cells_fit(columns: &[Column], cells: &[Cell<'_>]) -> bool
     ensures { result ≡ cells_fit columns.now cells.now }
@@ -83,18 +83,20 @@ fn cells_fit(columns: &[Column], cells: &[Cell<'_>]) -> bool
         return false;
     }
     for (number, column) in columns.iter().enumerate() {
-        if !shows_kind(column.kind, &cells[number]) {
+        if !cell_fits(column, &cells[number]) {
             return false;
         }
     }
     true
 }
 
-fn shows_kind(kind: Kind, cell: &Cell<'_>) -> bool
-    ensures { result ≡ shows_kind kind cell.now }
+fn cell_fits(column: &Column, cell: &Cell<'_>) -> bool
+    ensures { result ≡ cell_fits column.now cell.now }
 {
     match cell {
-        Cell::Shown(value) => takes(kind, value.as_ref()),
+        Cell::Shown(value) => {
+            takes(column.kind, value.as_ref()) && allows(column, value.as_ref())
+        },
         Cell::Hidden(_) => true,
     }
 }
