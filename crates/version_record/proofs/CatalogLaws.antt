@@ -8,11 +8,13 @@ use Rattle.vo_spec.specs.declared.tables.Column.{Column}
 use Rattle.vo_spec.specs.declared.tables.Schema.{Schema}
 use Rattle.vo_spec.specs.declared.records.CatalogTable.{CatalogTable}
 use Rattle.vo_spec.specs.declared.records.Catalog.{Catalog}
+use Rattle.vo_spec.specs.declared.records.Magic.{Magic}
+use Rattle.vo_spec.specs.declared.records.Magic.TheVariants.{Vrec, Vrc2}
 use Rattle.vo_spec.specs.Bytes.{IsBytes, u16_bytes, u64_bytes, short_string}
 use Rattle.vo_spec.specs.Values.{same_kind}
 use Rattle.vo_spec.specs.Tables.{column_at, has_twice, max_tables}
 use Rattle.vo_spec.specs.Batches.{FitCounted, FitsColumn, list_bytes, column_bytes}
-use Rattle.vo_spec.specs.Records.{catalog_table_bytes, catalog_bytes, are_rising, FitsSchema, FitsCatalogTable, FitsCatalog, IsCatalog}
+use Rattle.vo_spec.specs.Records.{catalog_table_bytes, catalog_bytes, are_rising, magic_of, FitsSchema, FitsCatalogTable, FitsCatalog, IsCatalog}
 use Rattle.row_bytes.specs.declared.read_fault.ReadFault.{ReadFault}
 use Rattle.row_bytes.specs.Reading.{byte_at, bytes_at, u16_at, u64_at}
 use Rattle.row_bytes.specs.Fields.{◌>>=◌, where_true, times, whole, ReadsAs}
@@ -20,7 +22,7 @@ use Rattle.row_bytes.proofs.Readers.{IsBytes-rest}
 use Rattle.batch_format.specs.BatchReading.{Reader}
 use Rattle.batch_format.proofs.ReaderLaws.{Took, IsReader, some_is, bound, tested, took_then, all_true, names_read, next_found, next_again, times_found, times_again}
 use Rattle.batch_format.proofs.BatchLaws.{columns_law, u16_found, u16_read}
-use Rattle.version_record.specs.Reading.{schema_at, catalog_table_at, catalog_at, is_schema, names_of}
+use Rattle.version_record.specs.Reading.{schema_at, catalog_table_at, catalog_at, catalog_of_record, is_schema, names_of, same_magic}
 use Rattle.version_record.proofs.RecordLaws.{bytes_read, u64s_read, whole_is}
 
 -- One byte.
@@ -63,12 +65,14 @@ schema_fits : (s : Schema) → FitCounted FitsColumn s.columns → is_schema s �
 schema_fits s columns e =
     let once : Bool = not (has_twice (map (λ (c : Column). c.name) s.columns)) in
     let within : Bool = ltb s.key (length s.columns) in
-    let both = all_true (not (has_twice (map (λ (c : Column). c.name) s.columns)) && ltb s.key (length s.columns)) (not (same_kind (column_at s.columns s.key).kind kind.Bool)) e in
-    let first = all_true (not (has_twice (map (λ (c : Column). c.name) s.columns))) (ltb s.key (length s.columns)) both.0 in
-    record { columns = columns; once = first.0; key_in = ltb-true s.key (length s.columns) first.1; key_kind = both.1 }
+    let no_truth : Bool = not (same_kind (column_at s.columns s.key).kind kind.Bool) in
+    let given = all_true (once && within && no_truth) (not (column_at s.columns s.key).nullable) e in
+    let both = all_true (once && within) no_truth given.0 in
+    let first = all_true once within both.0 in
+    record { columns = columns; once = first.0; key_in = ltb-true s.key (length s.columns) first.1; key_kind = both.1; key_given = given.1 }
 
 schema_is : (s : Schema) → FitsSchema s → is_schema s ≡ true
-schema_is s fits = rw (fits.once, lt-ltb s.key (length s.columns) fits.key_in, fits.key_kind) refl
+schema_is s fits = rw (fits.once, lt-ltb s.key (length s.columns) fits.key_in, fits.key_kind, fits.key_given) refl
 
 schema_found : (bytes : List ℕ) (s : Schema) (rest : List ℕ) → IsBytes bytes → schema_at bytes ≡ Some (s, rest) → Took bytes (schema_bytes s) rest × FitsSchema s
 unfolding schema_at
@@ -206,3 +210,31 @@ is_read bytes r c read is =
     subst (ReadsAs (λ (c : Catalog). c) r)
     (ap (λ (t : List ℕ). whole (catalog_at t)) (is.encoded ∙ sym (append-nil (catalog_bytes c))) ∙ ap whole (catalog_again c [] is.fits))
     read
+
+-- Of catalogs whose records begin so.
+
+same_is : (a b : Magic) → same_magic a b ≡ true → a ≡ b
+same_is Vrec Vrec e = refl
+same_is Vrec Vrc2 e = absurd cc
+same_is Vrc2 Vrec e = absurd cc
+same_is Vrc2 Vrc2 e = refl
+
+same_self : (a : Magic) → same_magic a a ≡ true
+same_self Vrec = refl
+same_self Vrc2 = refl
+
+abbrev with_magic : Magic → Catalog → Option Catalog
+with_magic magic c = where_true (same_magic magic (magic_of c)) c
+
+pub of_record_found : (magic : Magic) (bytes : List ℕ) (c : Catalog) → IsBytes bytes → catalog_of_record magic bytes ≡ Some c → IsCatalog bytes c × (magic ≡ magic_of c)
+of_record_found magic bytes c fits e =
+    let a = bound (whole (catalog_at bytes)) (with_magic magic) c e in
+    let t = tested (same_magic magic (magic_of a.0)) a.0 c a.2 in
+    let f = catalog_found bytes a.0 [] fits (whole_is (catalog_at bytes) a.0 a.1) in
+    subst (λ (c : Catalog). IsCatalog bytes c × (magic ≡ magic_of c)) t.1
+    (record { fits = f.1; encoded = f.0 ∙ append-nil (catalog_bytes a.0) }, same_is magic (magic_of a.0) t.0)
+
+pub of_record_again : (c : Catalog) → FitsCatalog c → catalog_of_record (magic_of c) (catalog_bytes c) ≡ Some c
+of_record_again c fits =
+    let read : whole (catalog_at (catalog_bytes c)) ≡ Some c = ap (λ (t : List ℕ). whole (catalog_at t)) (sym (append-nil (catalog_bytes c))) ∙ ap whole (catalog_again c [] fits) in
+    ap (λ (o : Option Catalog). o >>= with_magic (magic_of c)) read ∙ rw (same_self (magic_of c)) refl

@@ -1,4 +1,5 @@
 pub mod CatalogLaws
+mod Hashing
 mod Laid
 pub mod RecordLaws
 pub mod Rising

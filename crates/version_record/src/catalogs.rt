@@ -5,13 +5,14 @@ ghost use Rattle.vo_spec.specs.declared.records.Catalog.{Catalog as Plain};
 ghost use Rattle.vo_spec.specs.Records.{IsCatalog, FitsCatalog, FitsCatalogTable, are_rising, catalog_bytes, catalog_table_bytes};
 ghost use Rattle.vo_spec.specs.Values.{key_lt};
 ghost use Rattle.row_bytes.specs.Fields.{FoundOr, ReadsAs, times, whole};
-ghost use Rattle.version_record.specs.Reading.{catalog_at, catalog_table_at, names_of};
+ghost use Rattle.version_record.specs.Reading.{catalog_at, catalog_of_record, catalog_table_at, names_of};
 ghost use Rattle.batch_format.specs.Writing.{StaysInFront};
 
+use crate::magic::{magic_of, same_magic};
 use crate::tables::{put_table, take_table};
 use row_bytes::{Cursor, ReadFault};
 use std::alloc::{AllocError, Global};
-use vo_spec::{Catalog, CatalogTable, List, MAX_TABLES, Name, u16_bytes};
+use vo_spec::{Catalog, CatalogTable, List, MAX_TABLES, Magic, Name, u16_bytes};
 
 /// The one spelling of a catalog.
 pub fn catalog_bytes(alloc: Global, catalog: &Catalog) -> Result<Vec<u8>, AllocError>
@@ -79,12 +80,23 @@ fn take_catalog(alloc: Global, cursor: &mut Cursor<'_>) -> Result<Catalog, ReadF
 }
 
 /// The catalog that all the bytes are, by what reading gives.
-pub fn catalog_in(alloc: Global, bytes: &[u8]) -> Result<Catalog, ReadFault>
+fn catalog_in(alloc: Global, bytes: &[u8]) -> Result<Catalog, ReadFault>
     ensures { ReadsAs (λ catalog. catalog) result (whole (catalog_at bytes.now)) }
 {
     let mut cursor = Cursor::new(bytes);
     let catalog = take_catalog(alloc, &mut cursor)?;
     if !cursor.is_empty() {
+        return Err(ReadFault::BadForm);
+    }
+    Ok(catalog)
+}
+
+/// The catalog that all the bytes are, if its record begins with this.
+pub fn catalog_of_record(alloc: Global, magic: Magic, bytes: &[u8]) -> Result<Catalog, ReadFault>
+    ensures { ReadsAs (λ catalog. catalog) result (catalog_of_record magic bytes.now) }
+{
+    let catalog = catalog_in(alloc, bytes)?;
+    if !same_magic(magic, magic_of(&catalog)) {
         return Err(ReadFault::BadForm);
     }
     Ok(catalog)

@@ -5,6 +5,7 @@ ghost use Rattle.vo_spec.specs.Records.{record_bytes, IsRecord};
 ghost use Rattle.row_bytes.specs.Fields.{Found, whole};
 ghost use Rattle.version_record.specs.Reading.{record_at};
 
+use crate::magic::{magic_bytes, take_magic};
 use row_bytes::Cursor;
 use vo_spec::{Digest, Record, u64_bytes};
 
@@ -13,7 +14,7 @@ pub fn record_bytes(rec: &Record) -> [u8; 60]
     ensures { result ≡ record_bytes rec.now }
 {
     let mut bytes = [0; 60];
-    put_chunk(&mut bytes, 0, b"VREC");
+    put_chunk(&mut bytes, 0, &magic_bytes(rec.magic));
     put_chunk(&mut bytes, 4, &rec.id);
     put_chunk(&mut bytes, 20, &u64_bytes(rec.version));
     put_chunk(&mut bytes, 28, rec.catalog.as_bytes());
@@ -36,19 +37,20 @@ pub fn take_record(cursor: &mut Cursor<'_>) -> Option<Record>
     ensures { Found (λ rec. rec) result cursor.old cursor.new (record_at cursor.old) }
 {
     let mut ahead = cursor.copy();
-    ahead.take_word(b"VREC")?;
+    let magic = take_magic(&mut ahead)?;
     let id = ahead.take_chunk::<16>()?;
     let version = ahead.take_u64()?;
     let catalog = ahead.take_chunk::<32>()?;
     *cursor = ahead;
     Some(Record {
+        magic,
         id: *id,
         version,
         catalog: Digest::new(*catalog),
     })
 }
 
-fn record_of(bytes: &[u8]) -> Option<Record>
+fn record_in(bytes: &[u8]) -> Option<Record>
     ensures { result ≡ whole (record_at bytes.now) }
 {
     let mut cursor = Cursor::new(bytes);
@@ -64,5 +66,5 @@ pub fn read_record(bytes: &[u8]) -> Option<Record>
     // What is spelled so is read.
     ensures only { (rec : Plain) → IsRecord bytes.now rec → result ≡ Some rec }
 {
-    record_of(bytes)
+    record_in(bytes)
 }

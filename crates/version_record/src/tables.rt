@@ -11,7 +11,7 @@ ghost use Rattle.batch_format.specs.Writing.{StaysInFront};
 use batch_format::{write_columns, write_name};
 use row_bytes::{ByteSink, Cursor, ReadFault, take_columns};
 use std::alloc::{AllocError, Global};
-use table_list::{has_twice, kind_at, same_kind};
+use table_list::{has_twice, is_nullable_at, kind_at, same_kind};
 use vo_spec::{CatalogTable, Digest, Kind, MAX_ROWS, Name, Schema, u64_bytes};
 
 /// What the catalog says of the table that comes next.
@@ -52,13 +52,16 @@ fn take_schema(alloc: Global, cursor: &mut Cursor<'_>) -> Result<Schema, ReadFau
     Ok(schema)
 }
 
-/// Columns of different names, one of them the key, which is no BOOLEAN.
+/// Columns of different names, one of them the key, which is no BOOLEAN and not nullable.
 fn is_schema(schema: &Schema) -> bool
     ensures { result ≡ is_schema schema.now }
 {
     let columns = schema.columns.as_slice();
     let key = schema.key as usize;
-    !has_twice(columns) && key < columns.len() && !same_kind(kind_at(columns, key), Kind::Bool)
+    !has_twice(columns)
+        && key < columns.len()
+        && !same_kind(kind_at(columns, key), Kind::Bool)
+        && !is_nullable_at(columns, key)
 }
 
 /// Writes what a catalog says of a table.
