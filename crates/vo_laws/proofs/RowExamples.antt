@@ -3,8 +3,9 @@
 use Rattle.std.specs.Prelude.{◌≡◌, refl, ℕ, pos, negsuc, true, false, List, [], ◌∷◌, Option, Some, None, Ok, Err, codes}
 use Rattle.vo_spec.specs.declared.values.Kind.TheVariants as kind
 use Rattle.vo_spec.specs.declared.values.Value.{Value}
-use Rattle.vo_spec.specs.declared.values.Value.TheVariants.{Int, Text, Bool as Truth}
+use Rattle.vo_spec.specs.declared.values.Value.TheVariants.{Int, Text, Bool as Truth, Null}
 use Rattle.vo_spec.specs.declared.values.Row.{Row}
+use Rattle.vo_spec.specs.declared.tables.Column.{Column}
 use Rattle.vo_spec.specs.declared.tables.Schema.{Schema}
 use Rattle.vo_spec.specs.declared.tables.Table.{Table}
 use Rattle.vo_spec.specs.declared.tables.SetPart.{SetPart}
@@ -15,14 +16,14 @@ use Rattle.vo_spec.specs.declared.queries.Ref.{Ref}
 use Rattle.vo_spec.specs.declared.queries.Source.{Source}
 use Rattle.vo_spec.specs.declared.queries.Cmp.TheVariants as cmp
 use Rattle.vo_spec.specs.declared.queries.Items.TheVariants.{All, Refs}
-use Rattle.vo_spec.specs.declared.queries.Operand.TheVariants.{Literal}
+use Rattle.vo_spec.specs.declared.queries.Operand.TheVariants.{Ref as Column_of, Literal}
 use Rattle.vo_spec.specs.declared.queries.QueryFault.TheVariants as wrong
 use Rattle.vo_spec.specs.declared.queries.Outcome.{Outcome}
 use Rattle.vo_spec.specs.declared.queries.Outcome.TheVariants.{Rows, Wrong}
 use Rattle.vo_spec.specs.Bytes.{u64_bytes, u64_of, u16_bytes}
 use Rattle.vo_spec.specs.Values.{value_bytes, key_of, value_of_key}
 use Rattle.vo_spec.specs.Tables.{apply, apply_batch, tables_after}
-use Rattle.vo_spec.specs.Conditions.{Condition, Query, test, comparison}
+use Rattle.vo_spec.specs.Conditions.{Condition, Query, every, some, negated, test, none, more, comparison, null_test}
 use Rattle.vo_spec.specs.Results.{result}
 
 -- Key bytes of -1, 0, and the least and greatest BIGINT, and back.
@@ -63,6 +64,9 @@ bytes_bob = refl
 
 bytes_true : value_bytes (Truth true) ≡ 3 ∷ 1 ∷ []
 bytes_true = refl
+
+bytes_null : value_bytes Null ≡ 0 ∷ []
+bytes_null = refl
 
 -- A table `t` of two rows, by three batches.
 
@@ -260,3 +264,101 @@ joined = refl
 joined_swapped : result (bosses (of (codes "b") (codes "id")) (of (codes "a") (codes "boss"))) people ≡ who_has_ann
 unfolding result u64_bytes u64_of
 joined_swapped = refl
+
+-- NULL: a table whose names may be absent, with two rows, of which one has none.
+
+abbrev nullable_name : List Column
+nullable_name = record { name = codes "id"; kind = kind.Int; nullable = false } ∷ record { name = codes "name"; kind = kind.Text; nullable = true } ∷ []
+
+abbrev one_unnamed : List Table
+one_unnamed = record {
+  name = codes "t";
+  schema = record { columns = nullable_name; key = 0 };
+  rows = record { key = key_of (int 1); cells = Null ∷ [] } ∷ row 2 (codes "bob") ∷ [];
+} ∷ []
+
+abbrev create_nullable : Command
+create_nullable = Create (codes "t") nullable_name (codes "id")
+
+after_null : apply_batch (create_nullable ∷ Insert (codes "t") (int 1 ∷ Null ∷ []) ∷ insert 2 (codes "bob") ∷ []) [] ≡ Ok one_unnamed
+unfolding apply u64_bytes
+after_null = refl
+
+null_key : apply (Insert (codes "t") (Null ∷ text (codes "z") ∷ [])) one_unnamed ≡ Err fault.NotNull
+unfolding apply
+null_key = refl
+
+-- the kinds come first
+null_key_and_kind : apply (Insert (codes "t") (Null ∷ int 1 ∷ [])) one_unnamed ≡ Err fault.TypeMismatch
+unfolding apply
+null_key_and_kind = refl
+
+null_name : apply (Insert (codes "t") (int 4 ∷ Null ∷ [])) two_rows ≡ Err fault.NotNull
+unfolding apply
+null_name = refl
+
+null_set : apply (update (set (codes "name") Null) 1) two_rows ≡ Err fault.NotNull
+unfolding apply
+null_set = refl
+
+null_where : apply (Delete (codes "t") (codes "id") Null) two_rows ≡ Err fault.NotNull
+unfolding apply
+null_where = refl
+
+nullable_key : apply (Create (codes "u") nullable_name (codes "name")) two_rows ≡ Err fault.BadSchema
+unfolding apply
+nullable_key = refl
+
+abbrev is_bob : Condition
+is_bob = test (comparison (plain (codes "name")) cmp.Eq (Literal (text (codes "bob"))))
+
+abbrev ids_where : Condition → Query
+ids_where condition = one_table (plain (codes "id") ∷ []) (Some condition)
+
+abbrev ids : List (List Value) → Outcome
+ids = Rows (codes "id" ∷ [])
+
+named_bob : result (ids_where is_bob) one_unnamed ≡ ids ((int 2 ∷ []) ∷ [])
+unfolding result u64_bytes u64_of
+named_bob = refl
+
+-- what is unknown stays so under NOT, and isn't kept
+not_named_bob : result (ids_where (negated is_bob)) one_unnamed ≡ ids []
+unfolding result u64_bytes u64_of
+not_named_bob = refl
+
+-- nothing is known of NULL compared with itself
+same_name : result (ids_where (test (comparison (plain (codes "name")) cmp.Eq (Column_of (plain (codes "name")))))) one_unnamed ≡ ids ((int 2 ∷ []) ∷ [])
+unfolding result u64_bytes u64_of
+same_name = refl
+
+equal_null : result (ids_where (test (comparison (plain (codes "name")) cmp.Eq (Literal Null)))) one_unnamed ≡ ids []
+unfolding result u64_bytes u64_of
+equal_null = refl
+
+unnamed_or_second : result
+    (ids_where (some (more (test (null_test (plain (codes "name")) false)) (more (test (comparison (plain (codes "id")) cmp.Eq (Literal (int 2)))) none)))) one_unnamed
+    ≡ ids ((int 1 ∷ []) ∷ (int 2 ∷ []) ∷ [])
+unfolding result u64_bytes u64_of
+unnamed_or_second = refl
+
+-- a part that is false makes the whole false, though another part is unknown
+false_and_unknown : result
+    (ids_where (negated (every (more is_bob (more (test (comparison (plain (codes "id")) cmp.Eq (Literal (int 9)))) none))))) one_unnamed
+    ≡ ids ((int 1 ∷ []) ∷ (int 2 ∷ []) ∷ [])
+unfolding result u64_bytes u64_of
+false_and_unknown = refl
+
+-- Two people, one of whom has no boss: NULL joins with nobody.
+
+abbrev bossless : List Table
+bossless = record {
+  name = codes "e";
+  schema = record { columns = record { name = codes "id"; kind = kind.Int; nullable = false } ∷ record { name = codes "name"; kind = kind.Text; nullable = false } ∷ record { name = codes "boss"; kind = kind.Int; nullable = true } ∷ []; key = 0 };
+  rows = record { key = key_of (int 1); cells = text (codes "ann") ∷ Null ∷ [] } ∷ person 2 (codes "bob") 1 ∷ [];
+} ∷ []
+
+joined_by_null : result (bosses (of (codes "a") (codes "boss")) (of (codes "b") (codes "id"))) bossless
+    ≡ Rows (codes "a.name" ∷ codes "b.name" ∷ []) ((text (codes "bob") ∷ text (codes "ann") ∷ []) ∷ [])
+unfolding result u64_bytes u64_of
+joined_by_null = refl
