@@ -8,9 +8,9 @@ use Rattle.vo_spec.specs.declared.tables.Command.{Command}
 use Rattle.vo_spec.specs.declared.records.Record.{Record}
 use Rattle.vo_spec.specs.Batches.{FitsBatch}
 use Rattle.vo_spec.specs.Journals.{max_signature}
-use Rattle.vo_spec.specs.Records.{FitsRecord, record_bytes}
+use Rattle.vo_spec.specs.Records.{FitsRecord, magic_of, record_bytes}
 use Rattle.vo_spec.specs.Owners.{IsSigned}
-use Rattle.vo_spec.specs.Honest.{Stored, after_work, honest_record, honest_trees, work_all}
+use Rattle.vo_spec.specs.Honest.{Stored, after_work, catalog_of, honest_record, honest_trees, work_all}
 use Rattle.vo_laws.proofs.ListLaws.{each_both}
 use Rattle.vo_laws.proofs.StepLaws.{trees_follow}
 use Rattle.vo_laws.proofs.StoredFits.{record_fits}
@@ -41,12 +41,18 @@ record_fits_bytes key batches installed is =
     let long = key_long key installed.rec installed.signature is.signed in
     subst FitsRecord (sym is.record_is) (record_fits key (length batches) (honest_trees batches) (omega (arith, long)) (omega (arith, version, few)))
 
+-- a record that is kept begins as the catalog of its trees says
+pub kept_magic : (key : List ℕ) (batches : List (List Command)) (kept : KeptVersion) → IsKeptOf key batches kept → kept.signed.rec.magic ≡ magic_of (catalog_of kept.tables)
+unfolding honest_record
+kept_magic key batches kept is = ap (λ (x : Record). x.magic) is.signed.record_is ∙ sym (ap (λ ss. magic_of (catalog_of ss)) is.tables)
+
 -- by a version that is kept a query can be answered
 pub kept_answers : (key : List ℕ) (batches : List (List Command)) (kept : KeptVersion) → AllByRecursion FitsBatch batches → IsKeptOf key batches kept → IsAnswering kept
 kept_answers key batches kept fit is = record {
   signed = record_fits_bytes key batches kept.signed is.signed;
   short = signed_short key kept.signed.rec kept.signed.signature is.signed.signed;
   honest = (batches, fit, is.tables);
+  magic = kept_magic key batches kept is;
 }
 
 module _ (s : StoreState) (honest : IsHonestStore s) where
@@ -58,6 +64,11 @@ module _ (s : StoreState) (honest : IsHonestStore s) where
   installed_short installed e =
       let is = record_of s.installed installed e honest.1.installed in
       signed_short s.key installed.rec installed.signature is.signed
+
+  pub installed_magic : (installed : SignedRecord) → s.installed ≡ Some installed → installed.rec.magic ≡ magic_of (catalog_of s.tables)
+  installed_magic installed e =
+      kept_magic s.key honest.0 (record { signed = installed; tables = s.tables })
+      (record { signed = record_of s.installed installed e honest.1.installed; tables = honest.1.tables })
 
   pub installed_fits : (installed : SignedRecord) → s.installed ≡ Some installed → FitsRecord installed.rec
   installed_fits installed e = record_fits_bytes s.key honest.0 installed (record_of s.installed installed e honest.1.installed)

@@ -6,18 +6,20 @@ use Rattle.std.specs.List.{AllByRecursion}
 use Rattle.std.proofs.lemmas.List.{length-take-le, take_all}
 use Rattle.std.proofs.lemmas.Option.{slice_get_within}
 use Rattle.vo_spec.specs.declared.records.Entry.{Entry}
+use Rattle.vo_spec.specs.declared.records.Record.{Record}
 use Rattle.vo_spec.specs.Conditions.{Query}
 use Rattle.vo_spec.specs.Journals.{FitsEntry, batches_of, last_version}
 use Rattle.vo_spec.specs.Owners.{IsLoadable}
 use Rattle.vo_spec.specs.Replies.{Reply, max_reply, reply_bytes}
-use Rattle.vo_spec.specs.Honest.{Stored, honest_reply, honest_trees, reply_of}
+use Rattle.vo_spec.specs.Honest.{Stored, honest_record, honest_reply, honest_trees, reply_of}
+use Rattle.vo_laws.proofs.EntryLaws.{entry_held}
 use Rattle.owner_state.specs.Departing.{trees_at}
 use Rattle.owner_state.proofs.DepartLaws.{first_trees}
 use Rattle.vo_store.specs.declared.fault.StoreFault.{StoreFault}
 use Rattle.vo_store.specs.declared.fault.ReplyFault.{ReplyFault}
 use Rattle.vo_store.specs.declared.fault.ReplyFault.TheVariants as reply
 use Rattle.vo_store.specs.Calls.{within_limit}
-use Rattle.vo_store.specs.Replying.{IsKeptIn, IsReplyAt, IsReplyBy, IsTooLarge, IsTooLargeAt, Replies, RepliesAt}
+use Rattle.vo_store.specs.Replying.{HaveMagic, IsKeptIn, IsReplyAt, IsReplyBy, IsTooLarge, IsTooLargeAt, Replies, RepliesAt}
 use Rattle.vo_store.proofs.CallLaws.{limit_kept, limit_passed}
 use Rattle.vo_store.proofs.ReplyLaws.{journal_fits}
 
@@ -77,6 +79,10 @@ module _ (key journal : List ℕ) (es : List Entry) (loadable : IsLoadable key j
   pub entries_fit : AllByRecursion FitsEntry es
   unfolding IsLoadable
   entries_fit = journal_fits journal es loadable.0
+
+  pub entries_magic : HaveMagic es
+  unfolding IsLoadable honest_record
+  entries_magic version e found = ap (λ (x : Record). x.magic) (entry_held key es version e loadable.1 found).record_is
 
   pub entries_some : 0 < length es
   unfolding IsLoadable

@@ -5,11 +5,11 @@ use Rattle.vo_spec.specs.declared.records.Catalog.{Catalog}
 use Rattle.vo_spec.specs.declared.records.Entry.{Entry}
 use Rattle.vo_spec.specs.declared.records.Record.{Record}
 use Rattle.vo_spec.specs.Conditions.{Query}
-use Rattle.vo_spec.specs.Records.{FitsRecord}
+use Rattle.vo_spec.specs.Records.{FitsRecord, magic_of}
 use Rattle.vo_spec.specs.Journals.{FitsEntry, IsJournal, max_signature}
 use Rattle.vo_spec.specs.Trees.{RowTree}
 use Rattle.vo_spec.specs.Replies.{FitsReply, Reply}
-use Rattle.vo_spec.specs.Honest.{Stored, catalog_of, honest_reply}
+use Rattle.vo_spec.specs.Honest.{Stored, catalog_of, honest_reply, honest_trees}
 use Rattle.vo_laws.proofs.ReplyFits.{reply_fits}
 use Rattle.stored_tables.specs.Representation.{IsStanding}
 use Rattle.root_laws.proofs.Representation.{honest_standing}
@@ -35,6 +35,7 @@ module _ (q : Query) (rec : Record) (stored : List Stored) where
         ∙ ap (λ c. reply_with own c trees) catalog_is
         ∙ ap (reply_with own (catalog_of stored)) trees_are
 
-    pub reply_within : AreHonest stored → FitsRecord rec → length own ≤ max_signature → FitsReply (reply_with signature catalog trees)
-    reply_within h fits short =
-        subst FitsReply (sym reply_is) (subst (λ ss. FitsReply (honest_reply q rec own ss)) (sym h.2) (reply_fits h.0 q rec own h.1 fits short))
+    pub reply_within : AreHonest stored → FitsRecord rec → rec.magic ≡ magic_of (catalog_of stored) → length own ≤ max_signature → FitsReply (reply_with signature catalog trees)
+    reply_within h fits magic short =
+        let there : rec.magic ≡ magic_of (catalog_of (honest_trees h.0)) = magic ∙ ap (λ ss. magic_of (catalog_of ss)) h.2 in
+        subst FitsReply (sym reply_is) (subst (λ ss. FitsReply (honest_reply q rec own ss)) (sym h.2) (reply_fits h.0 q rec own h.1 fits there short))

@@ -19,9 +19,9 @@ use Rattle.vo_spec.specs.Results.{result}
 use Rattle.vo_spec.specs.Tables.{apply_batch, tables_after}
 use Rattle.vo_spec.specs.Journals.{max_proofs}
 use Rattle.vo_spec.specs.Owners.{IsSigned}
-use Rattle.vo_spec.specs.Records.{FitsRecord}
+use Rattle.vo_spec.specs.Records.{FitsRecord, magic_of}
 use Rattle.vo_spec.specs.Replies.{FitsReply, IsReply, Reply, max_reply, proofs_bytes, reply_bytes}
-use Rattle.vo_spec.specs.Honest.{RepresentTables, Stored, after_work, honest_proofs, honest_record, honest_reply, work_all}
+use Rattle.vo_spec.specs.Honest.{RepresentTables, Stored, after_work, catalog_of, honest_proofs, honest_record, honest_reply, work_all}
 use Rattle.vo_laws.specs.FittingTables.{FitTables}
 use Rattle.vo_laws.proofs.CompleteReplies.{honest_answer}
 use Rattle.vo_laws.proofs.ProofSizes.{honest_proofs_fit}
@@ -49,7 +49,7 @@ use Rattle.vo_store.specs.Calls.{FitProofs, Gives, answer_at_of, answer_of, inst
 use Rattle.vo_store.proofs.SignatureLaws.{signed_short}
 use Rattle.vo_store.proofs.InstallLaws.{install_good, installs}
 use Rattle.vo_store.proofs.KeptLaws.{first_batches_fit, is_installed, kept_is, newest_at, version_is}
-use Rattle.vo_store.proofs.HonestLaws.{record_fits_bytes, at_first, one_more, proposed_honest}
+use Rattle.vo_store.proofs.HonestLaws.{record_fits_bytes, kept_magic, at_first, one_more, proposed_honest}
 use Rattle.vo_store.proofs.CallLaws.{answer_some, answered_at, limit_kept, version_kept}
 
 pub stand : (batches : List (List Command)) (s : StoreState) → IsHonestAfter batches s → RepresentTables s.tables (tables_after batches)
@@ -238,7 +238,7 @@ module _ (key : List ℕ) (batches : List (List Command)) (kept : KeptVersion) (
   reply_read : IsReply (reply_bytes r) r
   reply_read = record {
     fits = subst (λ ss. FitsReply (honest_reply q kept.signed.rec kept.signed.signature ss)) (sym is.tables)
-        (reply_fits batches q kept.signed.rec kept.signed.signature fit rec_fits (signed_short key kept.signed.rec kept.signed.signature is.signed.signed));
+        (reply_fits batches q kept.signed.rec kept.signed.signature fit rec_fits (kept_magic key batches kept is ∙ ap (λ ss. magic_of (catalog_of ss)) is.tables) (signed_short key kept.signed.rec kept.signed.signature is.signed.signed));
     encoded = refl;
   }
 

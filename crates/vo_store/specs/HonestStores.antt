@@ -7,8 +7,8 @@ use Rattle.vo_spec.specs.Batches.{FitsBatch}
 use Rattle.vo_spec.specs.Conditions.{Query}
 use Rattle.vo_spec.specs.Journals.{max_signature}
 use Rattle.vo_spec.specs.Owners.{IsSigned}
-use Rattle.vo_spec.specs.Records.{FitsRecord}
-use Rattle.vo_spec.specs.Honest.{Stored, honest_record, honest_trees, work_all}
+use Rattle.vo_spec.specs.Records.{FitsRecord, magic_of}
+use Rattle.vo_spec.specs.Honest.{Stored, catalog_of, honest_record, honest_trees, work_all}
 use Rattle.vo_store.specs.declared.signed_record.SignedRecord.{SignedRecord}
 use Rattle.vo_store.specs.declared.fault.StoreFault.{StoreFault}
 use Rattle.vo_store.specs.declared.kept_version.KeptVersion.{KeptVersion}
@@ -43,6 +43,7 @@ pub record IsAnswering (kept : KeptVersion) : Type 0 where
   pub signed : FitsRecord kept.signed.rec
   pub short : length kept.signed.signature ≤ max_signature
   pub honest : AreHonest kept.tables
+  pub magic : kept.signed.rec.magic ≡ magic_of (catalog_of kept.tables)
 
 -- the trees are what some batch makes of these
 abbrev pub FollowBy : List Stored → List Stored → Type 0

@@ -1,18 +1,25 @@
 -- Replies by a journal.
-use Rattle.std.specs.Prelude.{◌≡◌, ◌⊎◌, ℕ, ◌+◌, ◌<◌, ◌≤◌, List, length, take, Some, Result, Ok, Err}
+use Rattle.std.specs.Prelude.{◌≡◌, ◌⊎◌, ℕ, ◌+◌, ◌<◌, ◌≤◌, List, length, take, Some, Result, Ok, Err, slice_get}
 use Rattle.std.specs.Global.{Vec}
 use Rattle.vo_spec.specs.declared.records.Entry.{Entry}
 use Rattle.vo_spec.specs.Conditions.{Query}
 use Rattle.vo_spec.specs.Journals.{last_version}
+use Rattle.vo_spec.specs.Records.{magic_of}
 use Rattle.vo_spec.specs.Replies.{Reply, reply_bytes, max_reply}
-use Rattle.vo_spec.specs.Honest.{reply_of}
+use Rattle.vo_spec.specs.Honest.{catalog_of, reply_of}
 use Rattle.vo_spec.specs.Owners.{IsLoadable}
+use Rattle.owner_state.specs.Departing.{trees_at}
 use Rattle.vo_store.specs.StoreState.{oldest_of}
 use Rattle.vo_store.specs.Calls.{within_limit}
 use Rattle.vo_store.specs.declared.fault.StoreFault.{StoreFault}
 use Rattle.vo_store.specs.declared.fault.StoreFault.TheVariants as store
 use Rattle.vo_store.specs.declared.fault.ReplyFault.{ReplyFault}
 use Rattle.vo_store.specs.declared.fault.ReplyFault.TheVariants as reply
+
+-- each record begins as the catalog of its version says
+abbrev pub HaveMagic : List Entry → Type 0
+HaveMagic es = (version : ℕ) (e : Entry) → slice_get es version ≡ Some e
+    → e.rec.magic ≡ magic_of (catalog_of (trees_at version es))
 
 -- A store of the key loads the journal, these are its entries, and this is its reply to the query.
 abbrev pub HasReply : List ℕ → List ℕ → Query → List ℕ → Type 0
@@ -44,6 +51,11 @@ IsReplyAt key journal version q bytes =
 abbrev pub IsTooLargeAt : List ℕ → List ℕ → ℕ → Query → ℕ → Type 0
 IsTooLargeAt key journal version q size = (bytes : List ℕ)
     × HasReplyAt key journal version q bytes × (size ≡ length bytes) × (max_reply < size)
+
+-- each record begins as the catalog of its version says
+abbrev pub HaveMagic : List Entry → Type 0
+HaveMagic es = (version : ℕ) (e : Entry) → slice_get es version ≡ Some e
+    → e.rec.magic ≡ magic_of (catalog_of (trees_at version es))
 
 -- A store of the key loads the journal, and keeps from the oldest of these versions to the newest;
 -- this one is older or newer.

@@ -2,9 +2,9 @@
 ghost use Rattle.std.specs.Prelude.{◌≡◌, ◌≤◌, IfOk, length};
 ghost use Rattle.vo_spec.specs.Conditions.{query_of};
 ghost use Rattle.vo_spec.specs.Journals.{max_signature};
-ghost use Rattle.vo_spec.specs.Records.{FitsRecord};
+ghost use Rattle.vo_spec.specs.Records.{FitsRecord, magic_of};
 ghost use Rattle.vo_spec.specs.Replies.{FitsReply, reply_bytes};
-ghost use Rattle.vo_spec.specs.Honest.{honest_reply};
+ghost use Rattle.vo_spec.specs.Honest.{catalog_of, honest_reply};
 ghost use Rattle.vo_format.specs.View.{reply_of};
 ghost use Rattle.vo_store.specs.StoreState.{oldest_of};
 ghost use Rattle.vo_store.specs.Calls.{Gives, kept_at, reply_by_kept, signed_reply, within_limit};
@@ -30,6 +30,7 @@ fn reply_by_tables<'t>(
     requires signed { FitsRecord installed.now.rec }
     requires short { length installed.now.signature ≤ max_signature }
     requires honest { AreHonest tables.now }
+    requires magic { installed.now.rec.magic ≡ magic_of (catalog_of tables.now) }
     ensures value { IfOk result (λ reply. reply_of reply ≡ honest_reply (query_of query.now)
         installed.now.rec installed.now.signature tables.now) }
     ensures fits { IfOk result (λ reply. FitsReply (reply_of reply)) }
@@ -69,6 +70,7 @@ pub(crate) fn answer_by_tables(
     requires signed { FitsRecord installed.now.rec }
     requires short { length installed.now.signature ≤ max_signature }
     requires honest { AreHonest tables.now }
+    requires magic { installed.now.rec.magic ≡ magic_of (catalog_of tables.now) }
     ensures { Gives (λ bytes. bytes.items) result
         (signed_reply (query_of query.now) installed.now tables.now) }
 {

@@ -9,7 +9,7 @@ ghost use Rattle.vo_spec.specs.Replies.{Reply, reply_bytes};
 ghost use Rattle.owner_state.specs.Departing.{trees_at};
 ghost use Rattle.vo_store.specs.declared.fault.StoreFault.{StoreFault};
 ghost use Rattle.vo_store.specs.Calls.{Gives, within_limit};
-ghost use Rattle.vo_store.specs.Replying.{IsNoVersion, IsReplyAt, IsReplyBy, IsTooLarge, IsTooLargeAt, Replies, RepliesAt};
+ghost use Rattle.vo_store.specs.Replying.{HaveMagic, IsNoVersion, IsReplyAt, IsReplyBy, IsTooLarge, IsTooLargeAt, Replies, RepliesAt};
 
 use crate::answering::{answer_by_tables, oldest_version};
 use crate::fault::{ReplyFault, StoreFault};
@@ -75,6 +75,7 @@ fn reply_by_last(
     query: &QueryText,
 ) -> Result<Vec<u8>, ReplyFault>
     requires fit { AllByRecursion FitsEntry read.now.entries }
+    requires magic { HaveMagic read.now.entries }
     requires some { 0 < length read.now.entries }
     requires tables { IfSome read.now.tables (λ tables.
         tables ≡ trees_at (last_version read.now.entries) read.now.entries) }
@@ -93,6 +94,7 @@ fn reply_by_kept(
     query: &QueryText,
 ) -> Result<Vec<u8>, ReplyFault>
     requires fit { AllByRecursion FitsEntry read.now.entries }
+    requires magic { HaveMagic read.now.entries }
     requires some { 0 < length read.now.entries }
     requires tables { IfSome read.now.tables (λ tables.
         tables ≡ trees_at version read.now.entries) }
@@ -119,6 +121,7 @@ fn reply_by_entry(
     query: &QueryText,
 ) -> Result<Vec<u8>, ReplyFault>
     requires fit { AllByRecursion FitsEntry read.now.entries }
+    requires magic { HaveMagic read.now.entries }
     requires within { version < length read.now.entries }
     requires tables { IfSome read.now.tables (λ tables.
         tables ≡ trees_at version read.now.entries) }

@@ -1,10 +1,13 @@
 use Rattle.std.proofs.Common.{arith}
 use Rattle.vo_spec.specs.Conditions.{query_of}
-use Rattle.vo_store.proofs.JournalReplies.{always_kept, entries_fit, entries_some, large_told, never_bad, reply_told}
+use Rattle.vo_store.proofs.JournalReplies.{always_kept, entries_fit, entries_magic, entries_some, large_told, never_bad, reply_told}
 use Rattle.vo_store.proofs.replying.reply_by.Goals as goal
 
 pub reply_by_last-requires-clause-fit : goal.reply_by_last-requires-clause-fit
 reply_by_last-requires-clause-fit c = entries_fit c.args.key c.args.journal.now c.in-Ok.read.entries c.in-Ok.ensures.taken
+
+pub reply_by_last-requires-clause-magic : goal.reply_by_last-requires-clause-magic
+reply_by_last-requires-clause-magic c = entries_magic c.args.key c.args.journal.now c.in-Ok.read.entries c.in-Ok.ensures.taken
 
 pub reply_by_last-requires-clause-some : goal.reply_by_last-requires-clause-some
 reply_by_last-requires-clause-some c = entries_some c.args.key c.args.journal.now c.in-Ok.read.entries c.in-Ok.ensures.taken
