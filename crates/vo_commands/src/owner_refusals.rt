@@ -20,10 +20,10 @@ pub fn owner_refusal(alloc: Global, fault: OwnerFault) -> NoStep
 {
     match fault {
         OwnerFault::Command { index, fault } => {
-            told(RefusalCause::Command, command_refusal(alloc, index, fault))
+            refused_step(RefusalCause::Command, command_refusal(alloc, index, fault))
         }
         OwnerFault::ProofForm { index } => {
-            told(
+            refused_step(
                 RefusalCause::Proofs,
                 proof_refusal(alloc, "form", index, &[]),
             )
@@ -33,30 +33,30 @@ pub fn owner_refusal(alloc: Global, fault: OwnerFault) -> NoStep
                 Word::Hexadecimal(want.as_bytes()),
                 Word::Hexadecimal(got.as_bytes()),
             ];
-            told(
+            refused_step(
                 RefusalCause::Proofs,
                 proof_refusal(alloc, "root", index, &digests),
             )
         }
         OwnerFault::ProofMissing { index } => {
-            told(
+            refused_step(
                 RefusalCause::Proofs,
                 proof_refusal(alloc, "missing", index, &[]),
             )
         }
         OwnerFault::ProofSurplus { index } => {
-            told(
+            refused_step(
                 RefusalCause::Proofs,
                 proof_refusal(alloc, "surplus", index, &[]),
             )
         }
-        OwnerFault::KeySpent => told(RefusalCause::Command, spent_key(alloc)),
+        OwnerFault::KeySpent => refused_step(RefusalCause::Command, spent_key(alloc)),
         OwnerFault::Memory => NoStep::Memory,
     }
 }
 
 /// A refusal with its lines, if there was memory for these.
-fn told(cause: RefusalCause, report: Result<Report, AllocError>) -> NoStep
+fn refused_step(cause: RefusalCause, report: Result<Report, AllocError>) -> NoStep
     ensures { (fault : OwnerFault) (output : Output) → refusal_of fault ≡ Some (cause, output)
         → IfOk report (λ report. output_of report ≡ output) → RefusesBy fault result }
 {

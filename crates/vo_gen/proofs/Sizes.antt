@@ -28,7 +28,7 @@ use Rattle.vo_spec.specs.declared.queries.Cond.{Cond, fold-roll-Cond}
 use Rattle.vo_spec.specs.declared.queries.Cond.TheVariants as cond_of
 use Rattle.vo_spec.specs.Conditions.{every, test, more, none, comparison, comparisons, conditions, condition_of, query_of, FitsOperand, FitsQuery}
 use Rattle.vo_gen.specs.Words.{word_of, key_of_number}
-use Rattle.vo_gen.specs.Workload.{max_steps, keys_for, number, creation, insertion, deletion, change, key_at, mark_at, is_even, stands, step, batch_at, batches_of, batches, selection, joining, query, query_count, queries_of, queries, between, column, column_of}
+use Rattle.vo_gen.specs.Workload.{max_steps, keys_for, number, creation, insertion, deletion, change, key_at, mark_at, is_even, stands, step, batch_at, batches_of, batches, selection, join_query, query, query_count, queries_of, queries, between, column, column_of}
 use Rattle.vo_gen.proofs.Standing.{step_is}
 
 u64_size : (n : ℕ) → length (u64_bytes n) ≡ 8
@@ -243,11 +243,11 @@ selected_fits : (low high : ℕ) → low < 2 ^ 33 → high < 2 ^ 33
 selected_fits low high l h = between_fits (column (codes "id")) low high l h
 
 joined_fits : (low high : ℕ) → low < 2 ^ 33 → high < 2 ^ 33
-    → FitsQuery (query_of (joining low high))
+    → FitsQuery (query_of (join_query low high))
 joined_fits low high l h = between_fits (column_of (codes "a") (codes "id")) low high l h
 
 asked_fits : (even : Bool) (low high : ℕ) → low < 2 ^ 33 → high < 2 ^ 33
-    → FitsQuery (query_of (if even then selection low high else joining low high))
+    → FitsQuery (query_of (if even then selection low high else join_query low high))
 asked_fits true low high l h = selected_fits low high l h
 asked_fits false low high l h = joined_fits low high l h
 

@@ -94,8 +94,8 @@ selection low high = record {
 }
 
 -- SELECT a.id, b.name FROM t AS a JOIN t AS b ON a.boss = b.id WHERE a.id >= low AND a.id < high
-abbrev pub joining : ℕ → ℕ → QueryText
-joining low high = record {
+abbrev pub join_query : ℕ → ℕ → QueryText
+join_query low high = record {
   items = Refs (column_of (codes "a") (codes "id") ∷ column_of (codes "b") (codes "name") ∷ []);
   left = source (codes "a");
   join = Some (record {
@@ -146,7 +146,7 @@ module _ (word : ℕ → ℕ) (keys : ℕ) where
   query n j =
       let low = word (2 * (n + j)) % keys in
       let high = low + word (2 * (n + j) + 1) % 64 in
-      if is_even j then selection low high else joining low high
+      if is_even j then selection low high else join_query low high
 
 -- the command of a step that the program has drawn
 abbrev pub command_of : Step → Command

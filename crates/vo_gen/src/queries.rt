@@ -1,7 +1,7 @@
 //! The queries of a workload.
 ghost use Rattle.std.specs.Prelude.{◌≡◌, ℕ, ◌+◌, ◌*◌, ◌<◌, ◌≤◌, IfOk, Some};
 ghost use Rattle.vo_gen.specs.Words.{word_of};
-ghost use Rattle.vo_gen.specs.Workload.{max_steps, keys_for, query, queries_of, column, column_of, source, between, selection, joining};
+ghost use Rattle.vo_gen.specs.Workload.{max_steps, keys_for, query, queries_of, column, column_of, source, between, selection, join_query};
 
 use crate::drawing::keys_for;
 use crate::steps::{name, number};
@@ -71,7 +71,7 @@ fn selection(alloc: Global, low: u32, high: u32) -> Result<QueryText, AllocError
 }
 
 fn boss_join(alloc: Global) -> Result<Join, AllocError>
-    ensures { IfOk result (λ made. Some made ≡ (joining 0 0).join) }
+    ensures { IfOk result (λ made. Some made ≡ (join_query 0 0).join) }
 {
     Ok(Join {
         right: source(alloc, "b")?,
@@ -81,8 +81,8 @@ fn boss_join(alloc: Global) -> Result<Join, AllocError>
 }
 
 /// The rows of these keys, each with its boss.
-fn joining(alloc: Global, low: u32, high: u32) -> Result<QueryText, AllocError>
-    ensures { IfOk result (λ made. made ≡ joining low high) }
+fn join_query(alloc: Global, low: u32, high: u32) -> Result<QueryText, AllocError>
+    ensures { IfOk result (λ made. made ≡ join_query low high) }
 {
     let items = vec![in alloc;
         column_of(alloc, "a", "id")?,
@@ -111,7 +111,7 @@ fn query(alloc: Global, words: &mut Words, n: u32, j: u32) -> Result<QueryText, 
     if j % 2 == 0 {
         selection(alloc, low, high)
     } else {
-        joining(alloc, low, high)
+        join_query(alloc, low, high)
     }
 }
 

@@ -143,7 +143,7 @@ fn lines(alloc: Global, work: &Work) -> Result<Vec<u8>, AllocError> {
     Ok(out)
 }
 
-fn joined(alloc: Global, lines: &[&str]) -> Result<Vec<u8>, AllocError> {
+fn text_of(alloc: Global, lines: &[&str]) -> Result<Vec<u8>, AllocError> {
     let mut out = Vec::new(alloc);
     for line in lines {
         out.extend_from_slice(line.as_bytes())?;
@@ -156,7 +156,7 @@ fn joined(alloc: Global, lines: &[&str]) -> Result<Vec<u8>, AllocError> {
 fn one_step(rt: HostRuntime) -> Result<(), Fail> {
     let alloc = rt.alloc();
     let work = generate(alloc, 1, 0)?;
-    assert!(rt; lines(alloc, &work)? == joined(alloc, &ONE_STEP)?);
+    assert!(rt; lines(alloc, &work)? == text_of(alloc, &ONE_STEP)?);
     Ok(())
 }
 
@@ -164,7 +164,7 @@ fn one_step(rt: HostRuntime) -> Result<(), Fail> {
 fn steps_of_each_kind(rt: HostRuntime) -> Result<(), Fail> {
     let alloc = rt.alloc();
     let work = generate(alloc, 12, 3)?;
-    assert!(rt; lines(alloc, &work)? == joined(alloc, &TWELVE_STEPS)?);
+    assert!(rt; lines(alloc, &work)? == text_of(alloc, &TWELVE_STEPS)?);
     Ok(())
 }
 

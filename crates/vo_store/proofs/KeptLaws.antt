@@ -61,8 +61,8 @@ module _ (key : List ℕ) (batches : List (List Command)) (batch : List Command)
   abbrev versions : List KeptVersion
   versions = earlier ++ last ∷ []
 
-  abbrev dropped : ℕ
-  dropped = length versions - max_earlier
+  abbrev dropped_count : ℕ
+  dropped_count = length versions - max_earlier
 
   longer : length more ≡ length batches + 1
   longer = omega (arith, length-append batches (batch ∷ []))
@@ -70,28 +70,28 @@ module _ (key : List ℕ) (batches : List (List Command)) (batch : List Command)
   one_more : length versions ≡ length earlier + 1
   one_more = omega (arith, length-append earlier (last ∷ []))
 
-  kept_behind : (place : ℕ) (kept : KeptVersion) → slice_get versions (dropped + place) ≡ Some kept → IsKeptOf key (take (oldest_of (length more) + place) more) kept
+  kept_behind : (place : ℕ) (kept : KeptVersion) → slice_get versions (dropped_count + place) ≡ Some kept → IsKeptOf key (take (oldest_of (length more) + place) more) kept
   kept_behind place kept found =
-      elim (eqb_tells (dropped + place) (length earlier)) [
+      elim (eqb_tells (dropped_count + place) (length earlier)) [
         | inl t ↦
             let newest : last ≡ kept = let both : Some last ≡ Some kept = sym (slice_end earlier last) ∙ ap (slice_get versions) (sym t.1) ∙ found in cc in
             let number : oldest_of (length more) + place ≡ length batches = omega (arith, h.count, longer, one_more, t.1) in
             let all : take (oldest_of (length more) + place) more ≡ batches = ap (λ (n : ℕ). take n more) number ∙ take_at batches (batch ∷ []) (length batches) refl in
             subst (λ (bs : List (List Command)). IsKeptOf key bs kept) (sym all) (subst (IsKeptOf key batches) newest is)
         | inr t ↦
-            let within : dropped + place < length versions = slice_get_within versions (dropped + place) kept found in
-            let below : dropped + place < length earlier = omega (arith, within, one_more, t.1) in
-            let number : oldest_of (length more) + place ≡ oldest_of (length batches) + (dropped + place) = omega (arith, h.count, longer, one_more, below) in
-            let few : oldest_of (length batches) + (dropped + place) ≤ length batches = omega (arith, h.count, below) in
-            let first : take (oldest_of (length more) + place) more ≡ take (oldest_of (length batches) + (dropped + place)) batches =
-            ap (λ (n : ℕ). take n more) number ∙ take-append-le (oldest_of (length batches) + (dropped + place)) batches (batch ∷ []) few in
-            subst (λ (bs : List (List Command)). IsKeptOf key bs kept) (sym first) (h.each (dropped + place) kept (sym (slice_front earlier last (dropped + place) below) ∙ found))
+            let within : dropped_count + place < length versions = slice_get_within versions (dropped_count + place) kept found in
+            let below : dropped_count + place < length earlier = omega (arith, within, one_more, t.1) in
+            let number : oldest_of (length more) + place ≡ oldest_of (length batches) + (dropped_count + place) = omega (arith, h.count, longer, one_more, below) in
+            let few : oldest_of (length batches) + (dropped_count + place) ≤ length batches = omega (arith, h.count, below) in
+            let first : take (oldest_of (length more) + place) more ≡ take (oldest_of (length batches) + (dropped_count + place)) batches =
+            ap (λ (n : ℕ). take n more) number ∙ take-append-le (oldest_of (length batches) + (dropped_count + place)) batches (batch ∷ []) few in
+            subst (λ (bs : List (List Command)). IsKeptOf key bs kept) (sym first) (h.each (dropped_count + place) kept (sym (slice_front earlier last (dropped_count + place) below) ∙ found))
       ]
 
   pub kept_more : AreKept key more (latest versions)
   kept_more = record {
-    count = omega (arith, length-drop dropped versions, h.count, longer, one_more);
-    each = λ place kept found. kept_behind place kept (sym (slice_drop dropped versions place) ∙ found);
+    count = omega (arith, length-drop dropped_count versions, h.count, longer, one_more);
+    each = λ place kept found. kept_behind place kept (sym (slice_drop dropped_count versions place) ∙ found);
   }
 
 -- What is kept.

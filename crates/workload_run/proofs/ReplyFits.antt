@@ -44,7 +44,7 @@ use Rattle.vo_laws.proofs.RepresentationLaws.{stands}
 use Rattle.vo_laws.proofs.StoredFits.{honest_trees_fit, root_length}
 use Rattle.vo_laws.proofs.ValueOrder.{number_length}
 use Rattle.vo_gen.specs.Words.{key_of_number, word_of}
-use Rattle.vo_gen.specs.Workload.{IsDrawn, batches, commands_of, is_even, joining, keys_for, max_steps, number, queries, queries_of, query, query_count, selection, tables_of}
+use Rattle.vo_gen.specs.Workload.{IsDrawn, batches, commands_of, is_even, join_query, keys_for, max_steps, number, queries, queries_of, query, query_count, selection, tables_of}
 use Rattle.vo_gen.proofs.Accepted.{workload_drawn, workload_few, workload_table}
 use Rattle.vo_gen.proofs.Sizes.{batches_fit, each_of, label_length, label_size, number_size, word_below}
 use Rattle.owner_state.proofs.SealSteps.{each_fits}
@@ -289,7 +289,7 @@ has_room cs rows q fit tables short few one rec signature record_fits signature_
 -- The queries of a workload.
 
 asks_one : (even : Bool) (low high : ℕ)
-    → UsesOneTable (query_of (cond even (selection low high) (joining low high)))
+    → UsesOneTable (query_of (cond even (selection low high) (join_query low high)))
 asks_one true low high hs = omega arith
 asks_one false low high hs = omega arith
 
