@@ -19,8 +19,8 @@ use Rattle.vo_spec.specs.declared.keys.Bound.{Bound}
 use Rattle.vo_spec.specs.declared.keys.Bound.TheVariants.{Absent, Inclusive, Exclusive}
 use Rattle.vo_spec.specs.declared.keys.Interval.{Interval}
 use Rattle.vo_spec.specs.Values.{is_null, is_of_kind, same_kind, key_of, key_cmp, key_lt, value_cmp, value_of_key, IsKeyOf}
-use Rattle.vo_spec.specs.Conditions.{Formula, Formulas, every, some, negated, test, none, more, Truth, is_true, both, either, opposite, truth_by, truth_of_all, truth_of_any, of_tests, of_tests_in, comparison, null_test, NameTest, Condition, Conditions, operand_refs, test_refs, condition_refs, sides, comparisons, compares, operand_value, comparison_truth, test_truth, truth, FitsOperand}
-use Rattle.vo_spec.specs.Results.{BoundSource, schema_at, place_of, ref_kind, is_operand_of, kind_fault}
+use Rattle.vo_spec.specs.Conditions.{Formula, Formulas, every, some, negated, test, none, more, Truth, is_true, both, opposite, truth_by, truth_of_all, truth_of_any, of_tests, of_tests_in, comparison, null_test, NameTest, Condition, Conditions, operand_refs, test_refs, condition_refs, sides, comparisons, compares, operand_value, comparison_truth, test_truth, truth, FitsOperand}
+use Rattle.vo_spec.specs.Results.{BoundSource, schema_at, place_of, ref_kind, kind_fault}
 use Rattle.vo_spec.specs.Scans.{is_above, is_below, in_interval}
 use Rattle.vo_spec.specs.Needs.{all_keys, keys_that, keys_that_compare, higher, lower, intersection, interval_by, interval_by_all, is_left_key, test_interval, interval_of, is_left, left_truth, left_truths}
 use Rattle.vo_spec.specs.Checks.{key_kind}
