@@ -10,7 +10,7 @@ use Rattle.vo_spec.specs.Conditions.{Query}
 use Rattle.vo_spec.specs.Honest.{Stored, catalog_of}
 use Rattle.vo_spec.specs.Keys.{key_id}
 use Rattle.vo_spec.specs.Owners.{IsSigned, IsJournalOf, FailsAt}
-use Rattle.vo_spec.specs.Records.{catalog_digest}
+use Rattle.vo_spec.specs.Records.{record_of}
 use Rattle.vo_spec.specs.Replies.{proofs_bytes}
 use Rattle.owner_roots.specs.declared.roots.Roots.{Roots}
 use Rattle.owner_roots.specs.Next.{NextOf, roots_with}
@@ -24,8 +24,7 @@ abbrev pub honest_roots : ℕ → List Stored → Roots
 honest_roots version stored = record { version = version; catalog = catalog_of stored }
 
 unfoldable pub record_of_roots : List ℕ → Roots → Record
-record_of_roots key roots =
-    record { id = key_id key; version = roots.version; catalog = catalog_digest roots.catalog }
+record_of_roots key roots = record_of (key_id key) roots.version roots.catalog
 
 -- The entry has the record of these roots, signed by the leaf of its version.
 pub record IsSignedFor (key : List ℕ) (roots : Roots) (e : Entry) : Type 0 where

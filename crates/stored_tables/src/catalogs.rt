@@ -1,8 +1,9 @@
 //! What catalogs hold of tables.
-ghost use Rattle.std.specs.Prelude.{◌≡◌, ◌++◌, ℕ, List, map, IfOk};
+ghost use Rattle.std.specs.Prelude.{◌≡◌, [], ◌∷◌, ◌++◌, ℕ, List, map, IfOk};
+ghost use Rattle.vo_spec.specs.declared.records.CatalogTable.{CatalogTable as PlainTable};
 ghost use Rattle.vo_spec.specs.Honest.{catalog_of};
-ghost use Rattle.vo_spec.specs.Records.{FitsCatalog, FitsCatalogTable, catalog_digest, catalog_table_bytes};
-ghost use Rattle.tagged_hash.specs.Holding.{HoldsBytes};
+ghost use Rattle.vo_spec.specs.Records.{FitsCatalog, FitsCatalogTable, FitsRecord, record_of};
+ghost use Rattle.version_record.specs.Hashing.{HoldsTables};
 ghost use Rattle.stored_tables.specs.Plain.{catalog_table};
 ghost use Rattle.stored_tables.specs.View.{stored_in, stored_of};
 
@@ -10,9 +11,8 @@ use crate::table::StoredTable;
 use std::alloc::{AllocError, Global};
 use std::rc::Rc;
 use table_list::copy_schema;
-use tagged_hash::Hasher;
-use version_record::{hash_count, hash_table};
-use vo_spec::{CatalogTable, Digest};
+use version_record::CatalogHasher;
+use vo_spec::{CatalogTable, Record};
 
 fn catalog_table(alloc: Global, table: &StoredTable) -> Result<CatalogTable, AllocError>
     ensures { IfOk result (λ made. made ≡ catalog_table (stored_of table.now)) }
@@ -39,14 +39,13 @@ pub(crate) fn catalog_tables(
 }
 
 /// Hashes what a catalog says of a table.
-fn hash_stored(hasher: &mut Hasher, table: &StoredTable)
+fn hash_stored(hasher: &mut CatalogHasher, table: &StoredTable)
     requires { FitsCatalogTable (catalog_table (stored_of table.now)) }
-    ensures { (bytes : List ℕ) → HoldsBytes hasher.old bytes → HoldsBytes hasher.new
-        (bytes ++ catalog_table_bytes (catalog_table (stored_of table.now))) }
+    ensures { (count : ℕ) → (tables : List PlainTable) → HoldsTables hasher.old count tables
+        → HoldsTables hasher.new count (tables ++ catalog_table (stored_of table.now) ∷ []) }
 {
     let tree = &table.tree;
-    hash_table(
-        hasher,
+    hasher.add_table(
         &table.name,
         &table.schema,
         tree.row_count(),
@@ -54,15 +53,15 @@ fn hash_stored(hasher: &mut Hasher, table: &StoredTable)
     );
 }
 
-/// The digest of the tables' catalog, which isn't made for it.
-#[tactic(auto, unfolding(vo_spec::specs::Records::catalog_digest, vo_spec::specs::Records::catalog_bytes))]
-pub(crate) fn catalog_digest(tables: &[Rc<StoredTable>]) -> Digest
+/// The record of these tables as this version. Their catalog isn't made for it.
+pub(crate) fn record_of(tables: &[Rc<StoredTable>], id: [u8; 16], version: u64) -> Record
     requires { FitsCatalog (catalog_of (stored_in tables.now)) }
-    ensures { result ≡ catalog_digest (catalog_of (stored_in tables.now)) }
+    ensures value { result ≡ record_of id version (catalog_of (stored_in tables.now)) }
+    ensures fits { FitsRecord result }
 {
-    let mut hasher = hash_count(tables.len() as u16);
+    let mut hasher = CatalogHasher::new(tables.len() as u16);
     for table in tables {
         hash_stored(&mut hasher, table);
     }
-    hasher.end()
+    hasher.record(id, version)
 }

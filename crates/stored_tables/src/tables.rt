@@ -4,7 +4,7 @@ ghost use Rattle.std.specs.List.{AllByRecursion};
 ghost use Rattle.vo_spec.specs.Tables.{apply_batch as apply_plain, refusal};
 ghost use Rattle.vo_spec.specs.Batches.{FitsBatch, FitsCommand};
 ghost use Rattle.vo_spec.specs.Fits.{FitsTree};
-ghost use Rattle.vo_spec.specs.Records.{FitsCatalog, catalog_digest};
+ghost use Rattle.vo_spec.specs.Records.{FitsCatalog, FitsRecord, record_of};
 ghost use Rattle.vo_spec.specs.Honest.{RepresentTables, stored_table_header, work, work_all, command_proof, catalog_of};
 ghost use Rattle.vo_laws.specs.FittingTables.{FitTables};
 ghost use Rattle.table_list.specs.Changes.{Returns};
@@ -15,7 +15,7 @@ ghost use Rattle.stored_tables.specs.Working.{work_from};
 ghost use Rattle.stored_tables.specs.Plain.{GivesPlain};
 
 use crate::batches::{apply_batch, share_tables};
-use crate::catalogs::{catalog_digest, catalog_tables};
+use crate::catalogs::{catalog_tables, record_of};
 use crate::command_proofs::proof_of;
 use crate::hashing::hash_tables;
 use crate::plain::plain_tables;
@@ -28,7 +28,7 @@ use std::alloc::{AllocError, Global};
 use std::marker::Model;
 use std::rc::Rc;
 use table_list::{ApplyFault, BatchFault, command_name};
-use vo_spec::{Batch, Catalog, Command, CommandFault, Digest, List, Table};
+use vo_spec::{Batch, Catalog, Command, CommandFault, List, Record, Table};
 
 /// Tables, each as its whole tree, which contracts see as the list of them. Tables before and after
 /// a command share what it leaves.
@@ -143,11 +143,12 @@ impl StoredTables {
         })
     }
 
-    /// The digest of what a record signs of the tables. It takes no memory.
-    pub fn catalog_digest(&self) -> Digest
-        ensures { result ≡ catalog_digest (catalog_of self.now) }
+    /// The record of the tables as this version, under a key's identifier. It takes no memory.
+    pub fn record_of(&self, id: [u8; 16], version: u64) -> Record
+        ensures value { result ≡ record_of id version (catalog_of self.now) }
+        ensures fits { FitsRecord result }
     {
-        catalog_digest(self.tables.as_slice())
+        record_of(self.tables.as_slice(), id, version)
     }
 
     /// The plain tables for which the trees stand.

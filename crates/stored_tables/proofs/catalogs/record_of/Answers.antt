@@ -4,7 +4,7 @@ use Rattle.stored_tables.specs.Plain.{catalog_table}
 use Rattle.stored_tables.specs.View.{stored_of}
 use Rattle.stored_tables.specs.declared.table.StoredTable.{StoredTable}
 use Rattle.stored_tables.proofs.PlainLaws.{table_fits}
-use Rattle.stored_tables.proofs.catalogs.catalog_digest.Goals as goal
+use Rattle.stored_tables.proofs.catalogs.record_of.Goals as goal
 
 pub hash_stored-requires : goal.hash_stored-requires
 hash_stored-requires c =

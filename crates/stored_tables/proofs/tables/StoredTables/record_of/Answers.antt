@@ -3,8 +3,8 @@ use Rattle.vo_spec.specs.Records.{FitsCatalog}
 use Rattle.vo_spec.specs.Honest.{catalog_of}
 use Rattle.stored_tables.specs.View.{stored_in}
 use Rattle.stored_tables.proofs.PlainLaws.{standing_catalog}
-use Rattle.stored_tables.proofs.tables.StoredTables.catalog_digest.Goals as goal
+use Rattle.stored_tables.proofs.tables.StoredTables.record_of.Goals as goal
 
-pub catalog_digest-requires : goal.catalog_digest-requires
-catalog_digest-requires c =
+pub record_of-requires : goal.record_of-requires
+record_of-requires c =
     subst (λ tables. FitsCatalog (catalog_of (stored_in tables))) (sym c.as_slice.ensures.value) (standing_catalog _ c.self.invariant)
