@@ -10,7 +10,7 @@ use Rattle.std.proofs.lemmas.Int.{ints, of_z-to_z, to_z-of_z}
 use Rattle.std.proofs.lemmas.Nat.{be_bytes_2, be_bytes_8, from_be_bytes-to_be_bytes_2, from_be_bytes-to_be_bytes_8}
 use Rattle.std.proofs.lemmas.List.{take_at, drop_at, take-append-drop, length-append, length-take}
 use Rattle.vo_spec.specs.declared.values.Value.{Value}
-use Rattle.vo_spec.specs.declared.values.Value.TheVariants.{Int, Text, Bool as Truth}
+use Rattle.vo_spec.specs.declared.values.Value.TheVariants.{Null, Int, Text, Bool as Truth}
 use Rattle.vo_spec.specs.Firsts.{first_of, unless}
 use Rattle.vo_spec.specs.Bytes.{IsBytes, u16_bytes, u64_bytes, u16_of, u64_of}
 use Rattle.vo_spec.specs.Values.{max_text, value_bytes, FitsValue, is_text}
@@ -176,23 +176,30 @@ bool_read false rest = refl
 
 -- Values.
 
+null_encodes : (bytes : List ℕ) (v : Value) (rest : List ℕ) → done (Null, bytes) ≡ done (v, rest) → Encodes (0 ∷ bytes) v rest
+null_encodes bytes v rest e = subst (λ (x : Value × List ℕ). Encodes (0 ∷ bytes) x.0 x.1) (ok_is (Null, bytes) (v, rest) e) (record { parts = refl; fits = tt })
+
 pub value_encodes : (bytes : List ℕ) (v : Value) (rest : List ℕ) → IsBytes bytes → value_at bytes ≡ Ok (v, rest) → Encodes bytes v rest
 unfolding value_at
 value_encodes [] v rest fits e = absurd cc
 value_encodes (kind ∷ bytes) v rest fits e =
-    elim (chosen (eqb kind 1) (int_at bytes) _ (Ok (v, rest)) e) [
-      | inl a ↦ subst (λ (k : ℕ). Encodes (k ∷ bytes) v rest) (sym (eqb-true kind 1 a.0)) (int_encodes bytes v rest (IsBytes-rest kind bytes fits) a.1)
-      | inr a ↦ elim (chosen (eqb kind 2) (text_at bytes) _ (Ok (v, rest)) a.1) [
-        | inl b ↦ subst (λ (k : ℕ). Encodes (k ∷ bytes) v rest) (sym (eqb-true kind 2 b.0)) (text_encodes bytes v rest (IsBytes-rest kind bytes fits) b.1)
-        | inr b ↦ elim (chosen (eqb kind 3) (bool_at bytes) _ (Ok (v, rest)) b.1) [
-          | inl c ↦ subst (λ (k : ℕ). Encodes (k ∷ bytes) v rest) (sym (eqb-true kind 3 c.0)) (bool_encodes bytes v rest c.1)
-          | inr c ↦ absurd (not_ok Tag (v, rest) c.1)
+    elim (chosen (eqb kind 0) (Ok (Null, bytes)) _ (Ok (v, rest)) e) [
+      | inl n ↦ subst (λ (k : ℕ). Encodes (k ∷ bytes) v rest) (sym (eqb-true kind 0 n.0)) (null_encodes bytes v rest n.1)
+      | inr n ↦ elim (chosen (eqb kind 1) (int_at bytes) _ (Ok (v, rest)) n.1) [
+        | inl a ↦ subst (λ (k : ℕ). Encodes (k ∷ bytes) v rest) (sym (eqb-true kind 1 a.0)) (int_encodes bytes v rest (IsBytes-rest kind bytes fits) a.1)
+        | inr a ↦ elim (chosen (eqb kind 2) (text_at bytes) _ (Ok (v, rest)) a.1) [
+          | inl b ↦ subst (λ (k : ℕ). Encodes (k ∷ bytes) v rest) (sym (eqb-true kind 2 b.0)) (text_encodes bytes v rest (IsBytes-rest kind bytes fits) b.1)
+          | inr b ↦ elim (chosen (eqb kind 3) (bool_at bytes) _ (Ok (v, rest)) b.1) [
+            | inl c ↦ subst (λ (k : ℕ). Encodes (k ∷ bytes) v rest) (sym (eqb-true kind 3 c.0)) (bool_encodes bytes v rest c.1)
+            | inr c ↦ absurd (not_ok Tag (v, rest) c.1)
+          ]
         ]
       ]
     ]
 
 pub value_read : (v : Value) (rest : List ℕ) → FitsValue v → value_at (value_bytes v ++ rest) ≡ Ok (v, rest)
 unfolding value_at
+value_read Null rest fits = refl
 value_read (Int z) rest fits = int_read z rest fits
 value_read (Text s) rest fits = text_read s rest fits
 value_read (Truth true) rest fits = bool_read true rest

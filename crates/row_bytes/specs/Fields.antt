@@ -1,6 +1,6 @@
 -- Fields of byte formats: what reading gives of strings and names behind their lengths, and of so
 -- many things in a row; and what a call that reads leaves.
-use Rattle.std.specs.Prelude.{◌≡◌, ℕ, zero, suc, Bool, ◌&&◌, ◌==◌, nat_le, List, [], ◌∷◌, ◌++◌, length, if◌then◌else◌, Option, Some, None, Result, Ok, Err, bytes_eq}
+use Rattle.std.specs.Prelude.{◌≡◌, ℕ, zero, suc, ◌-◌, Bool, true, false, ◌&&◌, ◌==◌, nat_le, nat_lt, List, [], ◌∷◌, ◌++◌, length, if◌then◌else◌, Option, Some, None, Result, Ok, Err, bytes_eq}
 use Rattle.vo_spec.specs.declared.values.Kind.{Kind}
 use Rattle.vo_spec.specs.declared.values.Kind.TheVariants as kind
 use Rattle.vo_spec.specs.declared.tables.Column.{Column}
@@ -89,10 +89,19 @@ kind_of_byte byte =
 unfoldable pub kind_at : List ℕ → Option (Kind × List ℕ)
 kind_at bytes = byte_at bytes >>= λ byte. kind_of_byte byte.0 >>= λ k. Some (k, byte.1)
 
--- a name, and the byte of a kind
+-- a column's kind, and whether the column is nullable, which the highest bit says
+abbrev pub type_of_byte : ℕ → Option (Kind × Bool)
+type_of_byte byte =
+    if nat_lt byte 128 then kind_of_byte byte >>= (λ k. Some (k, false))
+    else kind_of_byte (byte - 128) >>= (λ k. Some (k, true))
+
+unfoldable pub type_at : List ℕ → Option ((Kind × Bool) × List ℕ)
+type_at bytes = byte_at bytes >>= λ byte. type_of_byte byte.0 >>= λ of. Some (of, byte.1)
+
+-- a name, and the byte of a kind, which also says whether the column is nullable
 unfoldable pub column_at : List ℕ → Option (Column × List ℕ)
-column_at bytes = name_at bytes >>= λ name. kind_at name.1 >>=
-    λ k. Some (record { name = name.0; kind = k.0 }, k.1)
+column_at bytes = name_at bytes >>= λ name. type_at name.1 >>=
+    λ of. Some (record { name = name.0; kind = of.0.0; nullable = of.0.1 }, of.1)
 
 -- a byte that says how many there are, 1 to 32
 unfoldable pub count_at : List ℕ → Option (ℕ × List ℕ)

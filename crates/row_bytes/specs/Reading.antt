@@ -4,7 +4,7 @@ use Rattle.std.specs.Int.{w64, cast_signed}
 use Rattle.std.specs.List.{list_all}
 use Rattle.std.specs.Str.{is_utf8}
 use Rattle.vo_spec.specs.declared.values.Value.{Value}
-use Rattle.vo_spec.specs.declared.values.Value.TheVariants.{Int, Text, Bool as Truth}
+use Rattle.vo_spec.specs.declared.values.Value.TheVariants.{Null, Int, Text, Bool as Truth}
 use Rattle.vo_spec.specs.declared.values.Kind.{Kind}
 use Rattle.vo_spec.specs.declared.values.Kind.TheVariants as kind
 use Rattle.vo_spec.specs.Firsts.{first_of, unless}
@@ -65,11 +65,12 @@ unfoldable pub bool_at : List ℕ → Result (Value × List ℕ) FormFault
 bool_at [] = Err Short
 bool_at (byte ∷ bytes) = if nat_lt byte 2 then Ok (Truth (byte == 1), bytes) else Err Tag
 
--- a value behind the byte that says its kind, or the first fault
+-- a value behind the byte that says its kind, or NULL, which is that byte alone; or the first fault
 unfoldable pub value_at : List ℕ → Result (Value × List ℕ) FormFault
 value_at [] = Err Short
 value_at (byte ∷ bytes) =
-    if byte == 1 then int_at bytes
+    if byte == 0 then Ok (Null, bytes)
+    else if byte == 1 then int_at bytes
     else if byte == 2 then text_at bytes
     else if byte == 3 then bool_at bytes
     else Err Tag

@@ -1,11 +1,14 @@
 //! Taking the columns of a table.
 ghost use Rattle.std.specs.Prelude.{◌≡◌};
-ghost use Rattle.row_bytes.specs.Fields.{Found, FoundOr, kind_of_byte, kind_at, column_at, count_at, columns_at, times};
+ghost use Rattle.row_bytes.specs.Fields.{Found, FoundOr, kind_of_byte, type_of_byte, kind_at, type_at, column_at, count_at, columns_at, times};
 
 use crate::cursor::Cursor;
 use crate::read_fault::ReadFault;
 use std::alloc::Global;
 use vo_spec::{Column, Kind, List, MAX_COLUMNS, Name};
+
+// What a nullable column's byte has above that of its kind.
+const NULLABLE: u8 = 128;
 
 fn kind_of_byte(byte: u8) -> Option<Kind>
     ensures { result ≡ kind_of_byte byte }
@@ -29,6 +32,26 @@ pub fn take_kind(cursor: &mut Cursor<'_>) -> Option<Kind>
     Some(kind)
 }
 
+/// The kind that a byte stands for, and whether the column is nullable, as the highest bit says.
+fn type_of_byte(byte: u8) -> Option<(Kind, bool)>
+    ensures { result ≡ type_of_byte byte }
+{
+    if byte < NULLABLE {
+        return Some((kind_of_byte(byte)?, false));
+    }
+    Some((kind_of_byte(byte - NULLABLE)?, true))
+}
+
+#[tactic(auto, unfolding(crate::specs::Fields::type_at))]
+fn take_type(cursor: &mut Cursor<'_>) -> Option<(Kind, bool)>
+    ensures { Found (λ of. of) result cursor.old cursor.new (type_at cursor.old) }
+{
+    let mut ahead = cursor.copy();
+    let found = type_of_byte(ahead.take_byte()?)?;
+    *cursor = ahead;
+    Some(found)
+}
+
 /// How many things of a list come next: 1 to 32.
 #[tactic(auto, unfolding(crate::specs::Fields::count_at))]
 pub fn take_count(cursor: &mut Cursor<'_>) -> Option<u8>
@@ -49,10 +72,14 @@ fn take_column(alloc: Global, cursor: &mut Cursor<'_>) -> Result<Column, ReadFau
 {
     let mut ahead = cursor.copy();
     let name = ahead.take_name().ok_or(ReadFault::BadForm)?;
-    let kind = take_kind(&mut ahead).ok_or(ReadFault::BadForm)?;
+    let (kind, nullable) = take_type(&mut ahead).ok_or(ReadFault::BadForm)?;
     let name = Name::from_vec(Vec::from_slice(alloc, name)?);
     *cursor = ahead;
-    Ok(Column { name, kind })
+    Ok(Column {
+        name,
+        kind,
+        nullable,
+    })
 }
 
 /// A list of 1 to 32 columns.

@@ -34,11 +34,13 @@ fn from_least(above: u64) -> i64
     }
 }
 
-/// The bytes that order the values of a kind. A BOOLEAN has some too, though it is no key.
+/// The bytes that order the values of a kind. A BOOLEAN has some too, though it is no key; NULL has
+/// none.
 pub fn key_of(alloc: Global, value: &Value) -> Result<Key, AllocError>
     ensures { IfOk result (λ key. key ≡ key_of value.now) }
 {
     let bytes = match value {
+        Value::Null => Vec::new(alloc),
         Value::Int(number) => Vec::from_slice(alloc, &u64_bytes(above_least(*number)))?,
         Value::Text(text) => Vec::from_slice(alloc, text.as_bytes())?,
         Value::Bool(truth) => Vec::from_slice(alloc, &[u8::from(*truth)])?,

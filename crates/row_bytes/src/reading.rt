@@ -50,6 +50,7 @@ fn value_at(bytes: &[u8]) -> Result<(ValueRef<'_>, &[u8]), FormFault>
 {
     let (kind, rest) = bytes.split_first().ok_or(FormFault::Short)?;
     match *kind {
+        0 => Ok((ValueRef::Null, rest)),
         1 => int_at(rest),
         2 => text_at(rest),
         3 => bool_at(rest),

@@ -18,6 +18,7 @@ pub fn write_value<S: ByteSink>(sink: &mut S, value: ValueRef<'_>) -> Result<(),
     ensures err { OnErr result (WritesSome S.HoldsBytes sink.old sink.new) }
 {
     match value {
+        ValueRef::Null => sink.write(&[0]),
         ValueRef::Int(number) => sink.write(&int_bytes(number)),
         ValueRef::Text(text) => write_text(sink, text),
         ValueRef::Bool(truth) => sink.write(&[3, u8::from(truth)]),
