@@ -1,5 +1,5 @@
 -- Laws of readers: what one reads is spelled so and fits, and what fits and is spelled is read.
-use Rattle.std.proofs.Common.{◌≡◌, ℕ, zero, suc, ◌≤◌, Bool, true, false, ◌&&◌, eqb, leb, ltb, List, [], ◌∷◌, ◌++◌, length, take, drop, Option, Some, None, Result, Ok, Err, refl, sym, ap, subst, ◌∙◌, append_assoc, arith, inl, inr}
+use Rattle.std.proofs.Common.{◌≡◌, ℕ, zero, suc, ◌+◌, ◌-◌, ◌≤◌, if◌then◌else◌, Bool, true, false, ◌&&◌, eqb, leb, ltb, List, [], ◌∷◌, ◌++◌, length, take, drop, Option, Some, None, Result, Ok, Err, refl, sym, ap, subst, ◌∙◌, append_assoc, arith, inl, inr}
 use Rattle.std.specs.List.{AllByRecursion, flat_map}
 use Rattle.std.specs.Result.{result_ok}
 use Rattle.std.proofs.lemmas.Bool.{eqb-true, ltb-false, le-ltb, leb-true, le-leb}
@@ -11,10 +11,10 @@ use Rattle.vo_spec.specs.declared.tables.Column.{Column}
 use Rattle.vo_spec.specs.Bytes.{IsBytes, short_string}
 use Rattle.vo_spec.specs.Names.{is_name, FitsName}
 use Rattle.vo_spec.specs.Values.{type_byte, value_bytes, FitsValue}
-use Rattle.vo_spec.specs.Batches.{list_bytes, column_bytes, FitCounted, FitsColumn, max_columns}
+use Rattle.vo_spec.specs.Batches.{list_bytes, column_type, column_bytes, FitCounted, FitsColumn, max_columns}
 use Rattle.row_bytes.specs.declared.fault.FormFault.{FormFault}
 use Rattle.row_bytes.specs.Reading.{byte_at, bytes_at, value_at}
-use Rattle.row_bytes.specs.Fields.{◌>>=◌, where_true, short_string_at, name_at, kind_of_byte, kind_at, column_at, count_at, times}
+use Rattle.row_bytes.specs.Fields.{◌>>=◌, where_true, short_string_at, name_at, kind_of_byte, type_of_byte, type_at, column_at, count_at, times}
 use Rattle.row_bytes.proofs.Readers.{IsBytes-rest, IsBytes-drop, IsBytes-after, chosen}
 use Rattle.row_bytes.proofs.ValueLaws.{value_encodes, value_read}
 use Rattle.batch_format.specs.BatchReading.{Reader, any_value_at}
@@ -110,35 +110,69 @@ kind_read kind.Int = refl
 kind_read kind.Text = refl
 kind_read kind.Bool = refl
 
-kind_found : (bytes : List ℕ) (k : Kind) (rest : List ℕ) → IsBytes bytes → kind_at bytes ≡ Some (k, rest) → Took bytes (type_byte k ∷ []) rest
-unfolding kind_at byte_at
-kind_found [] k rest fits e = absurd cc
-kind_found (byte ∷ bytes) k rest fits e =
-    let b = bound (kind_of_byte byte) (λ k. Some (k, bytes)) (k, rest) e in
-    let is : (b.0, bytes) ≡ (k, rest) = some_is (b.0, bytes) (k, rest) b.2 in
-    subst (λ (p : Kind × List ℕ). Took (byte ∷ bytes) (type_byte p.0 ∷ []) p.1) is
-    (record { parts = ap (λ (n : ℕ). n ∷ bytes) (kind_encoded byte b.0 b.1); behind = IsBytes-rest byte bytes fits })
+-- what a column has behind its name
+abbrev Type_of : Type 0
+Type_of = Kind × Bool
 
-kind_again : (k : Kind) (rest : List ℕ) → kind_at (type_byte k ∷ [] ++ rest) ≡ Some (k, rest)
-unfolding kind_at byte_at
-kind_again k rest = rw (kind_read k) refl
+abbrev byte_of : Type_of → ℕ
+byte_of of = if of.1 then 128 + type_byte of.0 else type_byte of.0
+
+with_mark : (byte : ℕ) (nullable : Bool) (of : Type_of) → (kind_of_byte byte >>= λ k. Some (k, nullable)) ≡ Some of → (byte ≡ type_byte of.0) × (nullable ≡ of.1)
+with_mark byte nullable of e =
+    let b = bound (kind_of_byte byte) (λ k. Some (k, nullable)) of e in
+    let is : (b.0, nullable) ≡ of = some_is (b.0, nullable) of b.2 in
+    (kind_encoded byte b.0 b.1 ∙ ap (λ (p : Type_of). type_byte p.0) is, ap (λ (p : Type_of). p.1) is)
+
+type_encoded : (byte : ℕ) (of : Type_of) → type_of_byte byte ≡ Some of → byte ≡ byte_of of
+type_encoded byte of e =
+    elim (chosen (ltb byte 128) (kind_of_byte byte >>= λ k. Some (k, false)) _ (Some of) e) [
+      | inl a ↦ let is = with_mark byte false of a.1 in rw (sym is.1) is.0
+      | inr a ↦
+          let is = with_mark (byte - 128) true of a.1 in
+          let high : 128 ≤ byte = ltb-false byte 128 a.0 in
+          rw (sym is.1) (omega (arith, is.0))
+    ]
+
+type_read : (of : Type_of) → type_of_byte (byte_of of) ≡ Some of
+type_read (kind.Int, true) = refl
+type_read (kind.Text, true) = refl
+type_read (kind.Bool, true) = refl
+type_read (kind.Int, false) = refl
+type_read (kind.Text, false) = refl
+type_read (kind.Bool, false) = refl
+
+type_found : (bytes : List ℕ) (of : Type_of) (rest : List ℕ) → IsBytes bytes → type_at bytes ≡ Some (of, rest) → Took bytes (byte_of of ∷ []) rest
+unfolding type_at byte_at
+type_found [] of rest fits e = absurd cc
+type_found (byte ∷ bytes) of rest fits e =
+    let b = bound (type_of_byte byte) (λ of. Some (of, bytes)) (of, rest) e in
+    let is : (b.0, bytes) ≡ (of, rest) = some_is (b.0, bytes) (of, rest) b.2 in
+    subst (λ (p : Type_of × List ℕ). Took (byte ∷ bytes) (byte_of p.0 ∷ []) p.1) is
+    (record { parts = ap (λ (n : ℕ). n ∷ bytes) (type_encoded byte b.0 b.1); behind = IsBytes-rest byte bytes fits })
+
+type_again : (of : Type_of) (rest : List ℕ) → type_at (byte_of of ∷ [] ++ rest) ≡ Some (of, rest)
+unfolding type_at byte_at
+type_again of rest = rw (type_read of) refl
+
+abbrev column_made : List ℕ → Type_of → Column
+column_made name of = record { name = name; kind = of.0; nullable = of.1 }
 
 column_found : (bytes : List ℕ) (c : Column) (rest : List ℕ) → IsBytes bytes → column_at bytes ≡ Some (c, rest) → Took bytes (column_bytes c) rest × FitsColumn c
 unfolding column_at
 column_found bytes c rest fits e =
-    let a = bound (name_at bytes) (λ name. kind_at name.1 >>= λ k. Some (record { name = name.0; kind = k.0 }, k.1)) (c, rest) e in
-    let b = bound (kind_at a.0.1) (λ k. Some (record { name = a.0.0; kind = k.0 }, k.1)) (c, rest) a.2 in
+    let a = bound (name_at bytes) (λ name. type_at name.1 >>= λ of. Some (column_made name.0 of.0, of.1)) (c, rest) e in
+    let b = bound (type_at a.0.1) (λ of. Some (column_made a.0.0 of.0, of.1)) (c, rest) a.2 in
     let n = name_found bytes a.0.0 a.0.1 fits a.1 in
-    let k = kind_found a.0.1 b.0.0 b.0.1 n.0.behind b.1 in
-    let made : Column × List ℕ = (record { name = a.0.0; kind = b.0.0 }, b.0.1) in
+    let k = type_found a.0.1 b.0.0 b.0.1 n.0.behind b.1 in
+    let made : Column × List ℕ = (column_made a.0.0 b.0.0, b.0.1) in
     subst (λ (p : Column × List ℕ). Took bytes (column_bytes p.0) p.1 × FitsColumn p.0) (some_is made (c, rest) b.2)
-    (took_then bytes (short_string a.0.0) a.0.1 (type_byte b.0.0 ∷ []) b.0.1 n.0 k, n.1)
+    (took_then bytes (short_string a.0.0) a.0.1 (byte_of b.0.0 ∷ []) b.0.1 n.0 k, n.1)
 
 column_again : (c : Column) (rest : List ℕ) → FitsColumn c → column_at (column_bytes c ++ rest) ≡ Some (c, rest)
 unfolding column_at
 column_again c rest fits =
-    ap column_at (append_assoc (short_string c.name) (type_byte c.kind ∷ []) rest)
-    ∙ rw (name_again c.name (type_byte c.kind ∷ [] ++ rest) fits, kind_again c.kind rest) refl
+    ap column_at (append_assoc (short_string c.name) (column_type c ∷ []) rest)
+    ∙ rw (name_again c.name (column_type c ∷ [] ++ rest) fits, type_again (c.kind, c.nullable) rest) refl
 
 pub columns_are_read : IsReader column_at column_bytes FitsColumn
 columns_are_read = record { found = column_found; again = column_again }

@@ -3,7 +3,7 @@ ghost use Rattle.std.specs.Prelude.{◌≡◌, ◌++◌, OnOk, OnErr};
 ghost use Rattle.vo_spec.specs.Bytes.{short_string};
 ghost use Rattle.vo_spec.specs.Names.{FitsName};
 ghost use Rattle.vo_spec.specs.Values.{type_byte};
-ghost use Rattle.vo_spec.specs.Batches.{list_bytes, column_bytes, FitCounted, FitsColumn};
+ghost use Rattle.vo_spec.specs.Batches.{list_bytes, column_type, column_bytes, FitCounted, FitsColumn};
 ghost use Rattle.row_bytes.specs.Writing.{Writes, WritesSome};
 ghost use Rattle.batch_format.specs.Writing.{StaysInFront};
 
@@ -23,8 +23,8 @@ pub fn write_name<S: ByteSink>(sink: &mut S, name: &Name) -> Result<(), S::Fault
     sink.write(bytes)
 }
 
-/// The byte of a kind in a list of columns.
-pub fn type_byte(kind: Kind) -> u8
+// The byte of a kind.
+fn type_byte(kind: Kind) -> u8
     ensures { result ≡ type_byte kind }
 {
     match kind {
@@ -34,6 +34,16 @@ pub fn type_byte(kind: Kind) -> u8
     }
 }
 
+/// The byte of a column's kind, with the highest bit set where the column is nullable.
+fn column_type(column: &Column) -> u8
+    ensures { result ≡ column_type column.now }
+{
+    if column.nullable {
+        return 128 + type_byte(column.kind);
+    }
+    type_byte(column.kind)
+}
+
 #[tactic(auto, using(row_bytes::proofs::Writings::some_behind))]
 fn write_column<S: ByteSink>(sink: &mut S, column: &Column) -> Result<(), S::Fault>
     requires { FitsColumn column.now }
@@ -41,7 +51,7 @@ fn write_column<S: ByteSink>(sink: &mut S, column: &Column) -> Result<(), S::Fau
     ensures err { OnErr result (WritesSome S.HoldsBytes sink.old sink.new) }
 {
     write_name(sink, &column.name)?;
-    sink.write(&[type_byte(column.kind)])
+    sink.write(&[column_type(column)])
 }
 
 /// Writes columns behind how many they are.
