@@ -45,13 +45,13 @@ number n = Int (pos n)
 -- Commands.
 
 -- a column that isn't nullable
-abbrev pub column : List ℕ → Kind → Column
-column name k = record { name = name; kind = k; nullable = false }
+abbrev pub plain_column : List ℕ → Kind → Column
+plain_column name k = record { name = name; kind = k; nullable = false }
 
 -- CREATE TABLE t (id BIGINT, name TEXT, boss BIGINT, PRIMARY KEY (id))
 abbrev pub creation : Command
 creation = Create (codes "t")
-    (column (codes "id") kind.Int ∷ column (codes "name") kind.Text ∷ column (codes "boss") kind.Int ∷ [])
+    (plain_column (codes "id") kind.Int ∷ plain_column (codes "name") kind.Text ∷ plain_column (codes "boss") kind.Int ∷ [])
     (codes "id")
 
 -- the key, the letter n before a word in decimal, and the boss
@@ -177,7 +177,7 @@ abbrev pub tables_of : List Row → List Table
 tables_of rows = record {
   name = codes "t";
   schema = record {
-    columns = column (codes "id") kind.Int ∷ column (codes "name") kind.Text ∷ column (codes "boss") kind.Int ∷ [];
+    columns = plain_column (codes "id") kind.Int ∷ plain_column (codes "name") kind.Text ∷ plain_column (codes "boss") kind.Int ∷ [];
     key = 0;
   };
   rows = rows;

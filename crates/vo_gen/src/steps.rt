@@ -1,6 +1,6 @@
 //! Steps, and the commands that they are.
 ghost use Rattle.std.specs.Prelude.{◌≡◌, ◌++◌, map, codes, decimal, IfOk, not, ◌&&◌, if◌then◌else◌};
-ghost use Rattle.vo_gen.specs.Workload.{number, column, insertion, deletion, change, creation, command_of, is_even};
+ghost use Rattle.vo_gen.specs.Workload.{number, plain_column, insertion, deletion, change, creation, command_of, is_even};
 
 use std::alloc::{AllocError, Global};
 use vo_spec::{Column, Command, Kind, List, Name, SetPart, Text, Value};
@@ -53,7 +53,7 @@ pub fn number(value: u32) -> Value
 }
 
 fn column(alloc: Global, text: &str, kind: Kind) -> Result<Column, AllocError>
-    ensures { IfOk result (λ column. column ≡ column text.now kind) }
+    ensures { IfOk result (λ column. column ≡ plain_column text.now kind) }
 {
     Ok(Column {
         name: name(alloc, text)?,
