@@ -14,12 +14,12 @@ use Rattle.sql_tokens.specs.Lex.{Token, single_quotes, quoted_value}
 use Rattle.vo_spec.specs.declared.values.Value.TheVariants as value
 use Rattle.vo_spec.specs.declared.tables.Batch.{Batch}
 use Rattle.vo_spec.specs.Bytes.{u16_bytes, u64_bytes, short_string}
-use Rattle.vo_spec.specs.Values.{type_byte, value_bytes}
-use Rattle.vo_spec.specs.Batches.{list_bytes, column_bytes, set_bytes, command_bytes, batch_bytes}
+use Rattle.vo_spec.specs.Values.{value_bytes}
+use Rattle.vo_spec.specs.Batches.{list_bytes, column_type, column_bytes, set_bytes, command_bytes, batch_bytes}
 use Rattle.sql_text.specs.Tokens.{sql, IsToken}
-use Rattle.sql_text.specs.Rules.{before, followed_by, in_parens, optional, list_of, list_to_end}
+use Rattle.sql_text.specs.Rules.{before, followed_by, in_parens, flag, list_of, list_to_end}
 use Rattle.sql_text.specs.Queries.{name, literal}
-use Rattle.sql_text.specs.Commands.{column_kind, column, key_clause, create, drop_table, insert, set_part, update, delete, command, batch}
+use Rattle.sql_text.specs.Commands.{column_kind, null_mark, column, key_clause, create, drop_table, insert, set_part, update, delete, command, batch}
 use Rattle.sql_text.proofs.Weights.{weigh, some_byte, total, avoids, Light, light_less, light_zero, light_token, light_both, light_either, light_means, light_before, light_parens, light_listed, light_ended}
 
 sizes : {A : Type 0} (bytes : A → List ℕ) (xs : List A) → length (flat_map bytes xs) ≡ total (λ x. length (bytes x)) xs
@@ -65,7 +65,8 @@ module _ (N : Nests sql) where
       light_either N (light_means N (light_token N (λ t real e. number_size t real)))
       (light_either N (light_means N (light_token N (λ t real e. quoted_size t real)))
       (light_either N (light_means N (light_token N (λ t real e. omega (arith, some_byte t.text t real))))
-      (light_means N (light_token N (λ t real e. omega (arith, some_byte t.text t real))))))
+      (light_either N (light_means N (light_token N (λ t real e. omega (arith, some_byte t.text t real))))
+      (light_means N (light_token N (λ t real e. omega (arith, some_byte t.text t real)))))))
 
   kind_light : Light N column_kind (λ _. 1)
   unfolding column_kind
@@ -78,7 +79,7 @@ module _ (N : Nests sql) where
   unfolding column
   column_light =
       light_means N (light_less N (light_both N named (light_both N kind_light (light_zero N)))
-      (λ x. omega (arith, length-append (short_string x.0) (type_byte x.1.0 ∷ []))))
+      (λ x. omega (arith, length-append (short_string x.0) (column_type (record { name = x.0; kind = x.1.0; nullable = x.1.1 }) ∷ []))))
 
   set_light : Light N set_part (λ s. length (set_bytes s))
   unfolding set_part
@@ -153,5 +154,5 @@ module _ (N : Nests sql) where
       omega (arith, commands, few, length-append (u16_bytes (length b.commands)) (flat_map command_bytes b.commands), u16_size (length b.commands), sizes command_bytes b.commands)
 
 pub batch_avoids : avoids batch ≡ true
-unfolding batch command create key_clause drop_table insert update delete set_part column column_kind name literal list_to_end list_of in_parens followed_by before optional
+unfolding batch command create key_clause drop_table insert update delete set_part column column_kind null_mark name literal list_to_end list_of in_parens followed_by before flag
 batch_avoids = refl

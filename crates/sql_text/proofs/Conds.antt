@@ -11,15 +11,19 @@ use Rattle.std.specs.Prelude.{◌||◌}
 use Rattle.sql_tokens.specs.Lex.{Token}
 use Rattle.std.specs.Prelude.{Box, IfOk}
 use Rattle.std.specs.Global.{Global}
+use Rattle.vo_spec.specs.declared.queries.Cmp.{Cmp}
+use Rattle.vo_spec.specs.declared.queries.Operand.{Operand}
+use Rattle.vo_spec.specs.declared.queries.Ref.{Ref}
 use Rattle.vo_spec.specs.declared.queries.Cond
 use Rattle.vo_spec.specs.declared.queries.Cond.{Cond, fold-roll-Cond}
-use Rattle.vo_spec.specs.Conditions.{Condition, negated, condition_of}
+use Rattle.vo_spec.specs.Conditions.{Condition, negated, test, comparison, null_test, condition_of}
 use Rattle.sql_text.specs.declared.parse_error.ParseError.{ParseError}
 use Rattle.sql_text.specs.declared.parse_error.ParseError.TheVariants.{Memory, Fault}
 use Rattle.sql_text.specs.Parsing.{first_of, ReadsAndLeaves}
 use Rattle.sql_text.specs.Tokens.{sql, Nested, whole, primary}
 use Rattle.sql_text.specs.Rules.{followed_by, list_of}
-use Rattle.sql_text.specs.Queries.{comparison, prim, conj, disj, all_of, any_of, conditions_of}
+use Rattle.sql_text.proofs.Firsts.{first_null_clause}
+use Rattle.sql_text.specs.Queries.{reference, operator, operand, null_clause, test_end, name_test, prim, conj, disj, all_of, any_of, conditions_of}
 
 or_false : (a : Bool) → (a || false) ≡ true → a ≡ true
 or_false true e = refl
@@ -44,6 +48,20 @@ pub passed_on : {A B C D : Type 0} (view : B → A) (other : D → C) (found : F
     → ((s : ParseFault) → found ≡ (Err s, left) → next ≡ (Err s, left)) → ReadsAndLeaves view found (Err halt) left → ReadsAndLeaves other next (Err halt) left
 passed_on view other found next Memory left f h = tt
 passed_on view other found next (Fault s) left f h = f s h
+
+-- a test, by what stands behind its reference
+
+module _ (levels : ℕ) (left mid end : List Token) (r : Ref) where
+  pub null_read : (is_not : Bool) → read (reader conditions_of levels) reference left ≡ (Ok r, mid) → begins sql (k.Is ∷ []) mid ≡ true
+      → read (reader conditions_of levels) null_clause mid ≡ (Ok is_not, end) → read (reader conditions_of levels) name_test left ≡ (Ok (test (null_test r is_not)), end)
+  unfolding name_test test_end
+  null_read is_not e b f = rw (e, first_null_clause, b, f) refl
+
+  pub comparison_read : (rest : List Token) (op : Cmp) (right : Operand) → read (reader conditions_of levels) reference left ≡ (Ok r, mid) → begins sql (k.Is ∷ []) mid ≡ false
+      → read (reader conditions_of levels) operator mid ≡ (Ok op, rest) → read (reader conditions_of levels) operand rest ≡ (Ok right, end)
+      → read (reader conditions_of levels) name_test left ≡ (Ok (test (comparison r op right)), end)
+  unfolding name_test test_end
+  comparison_read rest op right e b f g = rw (e, first_null_clause, b, f, g) refl
 
 module _ (levels : ℕ) (left : List Token) where
   pub not_deep : begins sql (k.Not ∷ []) left ≡ true → levels ≡ 0 → read (reader conditions_of levels) prim left ≡ (Err Nesting, left)
@@ -98,7 +116,7 @@ module _ (levels : ℕ) (left : List Token) where
   unfolding prim followed_by
   paren_deep a b f = subst (λ z. read (reader conditions_of z) prim left ≡ (Err Nesting, left)) (sym f) (rw (a, b, too_deep k.LeftParen whole left b) refl)
 
-  pub test_is : begins sql (k.Not ∷ []) left ≡ false → begins sql (k.LeftParen ∷ []) left ≡ false → read (reader conditions_of levels) prim left ≡ read (reader conditions_of levels) comparison left
+  pub test_is : begins sql (k.Not ∷ []) left ≡ false → begins sql (k.LeftParen ∷ []) left ≡ false → read (reader conditions_of levels) prim left ≡ read (reader conditions_of levels) name_test left
   unfolding prim followed_by
   test_is a b = rw (a, b) refl
 
@@ -115,3 +133,9 @@ disj_is levels left = refl
 -- a condition is seen part by part
 pub not_is : (part : Box Cond Global) → condition_of (Cond.TheVariants.Not part) ≡ negated (condition_of part.value)
 not_is part = ap condition_of (sym (Cond.TheVariants.rolls-Not part)) ∙ search fold-roll-Cond
+
+pub test_seen : (r : Ref) (op : Cmp) (right : Operand) → condition_of (Cond.TheVariants.Test r op right) ≡ test (comparison r op right)
+test_seen r op right = ap condition_of (sym (Cond.TheVariants.rolls-Test r op right)) ∙ search fold-roll-Cond
+
+pub null_test_seen : (r : Ref) (is_not : Bool) → condition_of (Cond.TheVariants.IsNull r is_not) ≡ test (null_test r is_not)
+null_test_seen r is_not = ap condition_of (sym (Cond.TheVariants.rolls-IsNull r is_not)) ∙ search fold-roll-Cond

@@ -8,7 +8,7 @@ use Rattle.sql_tokens.specs.Kinds.{same_kind}
 use Rattle.sql_tokens.specs.Lex.{Token}
 use Rattle.sql_text.specs.Tokens.{sql}
 use Rattle.sql_text.specs.Rules.{before, optional}
-use Rattle.sql_text.specs.Queries.{name, reference, join}
+use Rattle.sql_text.specs.Queries.{name, reference, null_clause, join}
 use Rattle.sql_text.specs.Commands.{create, drop_table, insert, update, delete, command}
 
 pub first_name : first name ≡ k.Name ∷ []
@@ -18,6 +18,10 @@ first_name = refl
 pub first_reference : first reference ≡ k.Name ∷ []
 unfolding name reference optional before
 first_reference = refl
+
+pub first_null_clause : first null_clause ≡ k.Is ∷ []
+unfolding null_clause before
+first_null_clause = refl
 
 or_two : (a b : Bool) → (a || (b || false)) ≡ (a || false || (b || false))
 or_two true b = refl

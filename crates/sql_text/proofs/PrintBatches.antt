@@ -1,5 +1,5 @@
 -- Printed commands are spelled by the rules of the grammar, and printed texts are read again.
-use Rattle.std.proofs.Common.{◌≡◌, ℕ, zero, suc, ◌≤◌, true, List, [], ◌∷◌, ◌++◌, length, Some, None, refl, sym, ap, ◌∙◌, subst, inl, inr}
+use Rattle.std.proofs.Common.{◌≡◌, ℕ, zero, suc, ◌≤◌, Bool, true, false, List, [], ◌∷◌, ◌++◌, length, Some, None, refl, sym, ap, ◌∙◌, subst, inl, inr}
 use Rattle.std.specs.List.{AllByRecursion}
 use Rattle.grammar.specs.Rule.{Rule, nothing, token, both, either, many, means, inside}
 use Rattle.grammar.specs.Text.{Nests, Repeats, Spells, NestsIn, IsText}
@@ -22,11 +22,11 @@ use Rattle.sql_text.specs.Queries as query
 use Rattle.sql_text.specs.Queries.{conditions_of}
 use Rattle.sql_text.specs.Commands as command
 use Rattle.sql_text.specs.Texts.{IsTextOf}
-use Rattle.sql_text.specs.Printing.{word, name_token, literal_token, separate_by, terminate_by, parens, kind_word, column_tokens, set_tokens, key_tokens, columns_tokens, command_tokens, batch_tokens, query_tokens, spaces_between, text_of, query_text, batch_text}
+use Rattle.sql_text.specs.Printing.{word, name_token, literal_token, separate_by, terminate_by, parens, kind_word, mark_tokens, column_tokens, set_tokens, key_tokens, columns_tokens, command_tokens, batch_tokens, query_tokens, spaces_between, text_of, query_text, batch_text}
 use Rattle.sql_text.specs.Spellable.{FreeName, SpellableColumn, SpellableSet, SpellableCommand, SpellableBatch, SpellableQuery}
 use Rattle.sql_text.proofs.Made.{all_both}
 use Rattle.sql_text.proofs.PrintTexts.{reads_back}
-use Rattle.sql_text.proofs.PrintSpells.{Text, word_is, spell_before, spell_parens, spell_none, spell_listed, spell_ended, spell_name, spell_literal, spell_query}
+use Rattle.sql_text.proofs.PrintSpells.{Text, word_is, spell_before, spell_parens, spell_listed, spell_ended, spell_name, spell_literal, spell_query}
 
 spell_kind : (n : ℕ) (kind : Kind) → Text n command.column_kind (word (kind_word kind) ∷ []) kind
 unfolding command.column_kind
@@ -34,16 +34,21 @@ spell_kind n kind_of.Int = inl (word k.Bigint, (word_is k.Bigint refl, refl, ref
 spell_kind n kind_of.Text = inr (inl (word k.Text, (word_is k.Text refl, refl, refl), refl))
 spell_kind n kind_of.Bool = inr (inr (word k.Boolean, (word_is k.Boolean refl, refl, refl), refl))
 
+spell_mark : (n : ℕ) (nullable : Bool) → Text n command.null_mark (mark_tokens nullable) nullable
+unfolding command.null_mark rule.flag
+spell_mark n true = inr (inl (word k.Null, (word_is k.Null refl, refl, refl), refl))
+spell_mark n false = inr (inr (refl, refl))
+
 spell_column : (n : ℕ) (c : Column) → SpellableColumn c → Text n command.column (column_tokens c) c
 unfolding command.column
 spell_column n c h = (
-  (c.name, (c.kind, None)),
+  (c.name, (c.kind, c.nullable)),
   (
     name_token c.name ∷ [],
-    word (kind_word c.kind) ∷ [],
+    word (kind_word c.kind) ∷ mark_tokens c.nullable,
     refl,
     spell_name n c.name h,
-    (word (kind_word c.kind) ∷ [], [], refl, spell_kind n c.kind, spell_none n (both (token k.Not) (token k.Null))),
+    (word (kind_word c.kind) ∷ [], mark_tokens c.nullable, refl, spell_kind n c.kind, spell_mark n c.nullable),
   ),
   refl,
 )

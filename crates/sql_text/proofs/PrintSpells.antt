@@ -1,5 +1,5 @@
 -- What is printed is spelled by the rules of the grammar, with the value that was printed.
-use Rattle.std.proofs.Common.{◌≡◌, ℕ, zero, suc, ◌≤◌, max, true, false, List, [], ◌∷◌, ◌++◌, length, drop, Option, Some, None, refl, sym, ap, ◌∙◌, subst, inl, inr, arith, append_assoc}
+use Rattle.std.proofs.Common.{◌≡◌, ℕ, zero, suc, ◌≤◌, max, Bool, true, false, List, [], ◌∷◌, ◌++◌, length, drop, Option, Some, None, refl, sym, ap, ◌∙◌, subst, inl, inr, arith, append_assoc}
 use Rattle.std.specs.Prelude.{flat_map, nat_lt, IfSome}
 use Rattle.std.specs.Option.{option_map_or}
 use Rattle.std.specs.List.{AllByRecursion}
@@ -22,12 +22,12 @@ use Rattle.vo_spec.specs.declared.queries.Cmp.TheVariants as cmp
 use Rattle.vo_spec.specs.declared.queries.Operand.{Operand}
 use Rattle.vo_spec.specs.declared.queries.Operand.TheVariants as operand_of
 use Rattle.vo_spec.specs.Values.{FitsValue}
-use Rattle.vo_spec.specs.Conditions.{every, some, negated, test, none, more, comparison, NameTest, Condition, Conditions, conditions, Query}
+use Rattle.vo_spec.specs.Conditions.{every, some, negated, test, none, more, comparison, null_test, NameTest, Condition, Conditions, conditions, Query}
 use Rattle.sql_text.specs.Tokens.{sql, IsToken, whole}
 use Rattle.sql_text.specs.Rules as rule
 use Rattle.sql_text.specs.Queries as query
 use Rattle.sql_text.specs.Queries.{conditions_of, all_of, any_of}
-use Rattle.sql_text.specs.Printing.{word, name_token, literal_token, separate_by, terminate_by, parens, reference_tokens, source_tokens, operator, operand_tokens, test_tokens, is_enclosed, parenthesize, condition_tokens, parts_tokens, items_tokens, join_tokens, where_tokens, query_tokens}
+use Rattle.sql_text.specs.Printing.{word, name_token, literal_token, separate_by, terminate_by, parens, reference_tokens, source_tokens, operator, operand_tokens, null_tokens, test_tokens, is_enclosed, parenthesize, condition_tokens, parts_tokens, items_tokens, join_tokens, where_tokens, query_tokens}
 use Rattle.sql_text.specs.Spellable.{FreeName, SpellableRef, SpellableSource, SpellableOperand, SpellableTest, HasTwo, SpellableCondition, SpellableParts, deeper, levels_of, levels_in, SpellableItems, SpellableJoin, SpellableQuery}
 use Rattle.sql_text.proofs.PrintTokens.{name_folded, name_is, integer_is, quoted_is, unquoted_again}
 
@@ -162,7 +162,8 @@ unfolding query.literal
 spell_literal n (value.Int z) h = inl (literal_token (value.Int z), (integer_is z h, refl, refl), refl)
 spell_literal n (value.Text s) h = inr (inl (literal_token (value.Text s), (quoted_is s h, refl, refl), ap (λ z. value.Text z) (unquoted_again s)))
 spell_literal n (value.Bool true) h = inr (inr (inl (word k.True, (word_is k.True refl, refl, refl), refl)))
-spell_literal n (value.Bool false) h = inr (inr (inr (word k.False, (word_is k.False refl, refl, refl), refl)))
+spell_literal n (value.Bool false) h = inr (inr (inr (inl (word k.False, (word_is k.False refl, refl, refl), refl))))
+spell_literal n value.Null h = inr (inr (inr (inr (word k.Null, (word_is k.Null refl, refl, refl), refl))))
 
 by_qualifier : (n : ℕ) (q : Option (List ℕ)) (c : List ℕ) → IfSome q FreeName → FreeName c
     → Text n query.reference (reference_tokens (record { qualifier = q; column = c })) (record { qualifier = q; column = c })
@@ -215,17 +216,31 @@ unfolding query.operand
 spell_operand n (operand_of.Ref r) h = inl (r, spell_ref n r h, refl)
 spell_operand n (operand_of.Literal v) h = inr (v, spell_literal n v h, refl)
 
+spell_null : (n : ℕ) (is_not : Bool) → Text n query.null_clause (null_tokens is_not) is_not
+unfolding query.null_clause rule.flag
+spell_null n true =
+    spell_before n k.Is _ _ true (word_is k.Is refl)
+    (spell_closed n _ k.Null (word k.Not ∷ []) true (word_is k.Null refl) (inl (word k.Not, (word_is k.Not refl, refl, refl), refl)))
+spell_null n false =
+    spell_before n k.Is _ _ false (word_is k.Is refl)
+    (spell_closed n _ k.Null [] false (word_is k.Null refl) (inr (refl, refl)))
+
 spell_test : (n : ℕ) (t : NameTest) → SpellableTest t → Text n query.prim (test_tokens t) (test t)
-unfolding query.prim query.comparison
+unfolding query.prim query.name_test query.test_end
 spell_test n (comparison left op right) h = inr (inr (
-  (left, (op, right)),
+  (left, λ r. comparison r op right),
   (
     reference_tokens left,
     word (operator op) ∷ operand_tokens right,
     refl,
     spell_ref n left h.0,
-    (word (operator op) ∷ [], operand_tokens right, refl, spell_operator n op, spell_operand n right h.1),
+    inr ((op, right), (word (operator op) ∷ [], operand_tokens right, refl, spell_operator n op, spell_operand n right h.1), refl),
   ),
+  refl,
+))
+spell_test n (null_test left is_not) h = inr (inr (
+  (left, λ r. null_test r is_not),
+  (reference_tokens left, null_tokens is_not, refl, spell_ref n left h, inl (is_not, spell_null n is_not, refl)),
   refl,
 ))
 

@@ -35,9 +35,9 @@ use Rattle.vo_spec.specs.declared.tables.Command.TheVariants as command_of
 use Rattle.vo_spec.specs.Names.{is_name_byte, FitsName}
 use Rattle.vo_spec.specs.Values.{FitsValue}
 use Rattle.vo_spec.specs.Batches.{FitsColumn, FitsSet, FitsCommand, FitsBatch}
-use Rattle.vo_spec.specs.Conditions.{every, some, negated, test, none, more, of_tests_in, comparison, NameTest, Condition, Conditions, sides, comparisons, Query}
-use Rattle.sql_text.specs.Printing.{word, name_token, literal_token, quoted_byte, separate_by, terminate_by, parens, reference_tokens, source_tokens, operator, operand_tokens, test_tokens, is_enclosed, parenthesize, condition_tokens, parts_tokens, items_tokens, join_tokens, where_tokens, query_tokens, kind_word, column_tokens, set_tokens, key_tokens, columns_tokens, command_tokens, batch_tokens, spaces_between, query_text, batch_text}
-use Rattle.sql_text.specs.Printable.{PrintableRef, PrintableSource, PrintableItems, PrintableJoin, PrintableOperand, PrintableSides, PrintableQuery}
+use Rattle.vo_spec.specs.Conditions.{every, some, negated, test, none, more, of_tests_in, comparison, null_test, NameTest, Condition, Conditions, Query}
+use Rattle.sql_text.specs.Printing.{word, name_token, literal_token, quoted_byte, separate_by, terminate_by, parens, reference_tokens, source_tokens, operator, operand_tokens, null_tokens, test_tokens, is_enclosed, parenthesize, condition_tokens, parts_tokens, items_tokens, join_tokens, where_tokens, query_tokens, kind_word, mark_tokens, column_tokens, set_tokens, key_tokens, columns_tokens, command_tokens, batch_tokens, spaces_between, query_text, batch_text}
+use Rattle.sql_text.specs.Printable.{PrintableRef, PrintableSource, PrintableItems, PrintableJoin, PrintableOperand, PrintableTest, tests_of, PrintableQuery}
 use Rattle.sql_text.proofs.Made.{all_both, all_parts}
 use Rattle.sql_text.proofs.PrintTokens.{name_small}
 use Rattle.sql_text.proofs.TokenSounds.{both, high_char, utf8_cons}
@@ -103,6 +103,7 @@ literal_utf8 (value.Int z) h = integer_utf8 z h
 literal_utf8 (value.Text s) h = quoted_utf8 s (IsUtf8-from_is_utf8 s (both _ _ (both _ _ h).0).1)
 literal_utf8 (value.Bool true) h = word_utf8 k.True refl
 literal_utf8 (value.Bool false) h = word_utf8 k.False refl
+literal_utf8 value.Null h = word_utf8 k.Null refl
 
 -- Lists of tokens.
 
@@ -144,8 +145,8 @@ spaced_utf8 (t ∷ u ∷ ts) h = IsUtf8-append t.text (32 ∷ spaces_between (u 
 
 -- Queries.
 
-abbrev AreTests : List (Ref × Operand) → Type 0
-AreTests tests = AllByRecursion PrintableSides tests
+abbrev AreTests : List NameTest → Type 0
+AreTests tests = AllByRecursion PrintableTest tests
 
 qualifier_utf8 : (q : Option (List ℕ)) (c : List ℕ) → IfSome q FitsName → FitsName c → AreUtf8 (reference_tokens (record { qualifier = q; column = c }))
 qualifier_utf8 None c h f = (name_utf8 c f, tt)
@@ -169,20 +170,25 @@ operand_utf8 : (v : Operand) → PrintableOperand v → AreUtf8 (operand_tokens 
 operand_utf8 (operand_of.Ref r) h = reference_utf8 r h
 operand_utf8 (operand_of.Literal v) h = (literal_utf8 v h, tt)
 
-test_utf8 : (t : NameTest) → AreTests (sides t) → AreUtf8 (test_tokens t)
-test_utf8 (comparison left op right) h = joined (reference_tokens left) _ (reference_utf8 left h.0.0) (operator_utf8 op, operand_utf8 right h.0.1)
+null_utf8 : (is_not : Bool) → AreUtf8 (null_tokens is_not)
+null_utf8 true = (word_utf8 k.Is refl, (word_utf8 k.Not refl, (word_utf8 k.Null refl, tt)))
+null_utf8 false = (word_utf8 k.Is refl, (word_utf8 k.Null refl, tt))
+
+test_utf8 : (t : NameTest) → PrintableTest t → AreUtf8 (test_tokens t)
+test_utf8 (comparison left op right) h = joined (reference_tokens left) _ (reference_utf8 left h.0) (operator_utf8 op, operand_utf8 right h.1)
+test_utf8 (null_test left is_not) h = joined (reference_tokens left) (null_tokens is_not) (reference_utf8 left h) (null_utf8 is_not)
 
 mutual
-  condition_utf8 : (c : Condition) → AreTests (comparisons c) → AreUtf8 (condition_tokens c)
+  condition_utf8 : (c : Condition) → AreTests (tests_of c) → AreUtf8 (condition_tokens c)
   condition_utf8 (every cs) h = rest_utf8 (parts_tokens k.And cs) (parts_utf8 k.And (word_utf8 k.And refl) cs h)
   condition_utf8 (some cs) h = rest_utf8 (parts_tokens k.Or cs) (parts_utf8 k.Or (word_utf8 k.Or refl) cs h)
   condition_utf8 (negated c) h = (word_utf8 k.Not refl, enclosed_utf8 (is_enclosed k.Not c) (condition_tokens c) (condition_utf8 c h))
-  condition_utf8 (test t) h = test_utf8 t h
+  condition_utf8 (test t) h = test_utf8 t h.0
 
-  parts_utf8 : (in_word : TokenKind) → IsUtf8 (spelling in_word) → (cs : Conditions) → AreTests (of_tests_in sides cs) → AreUtf8 (parts_tokens in_word cs)
+  parts_utf8 : (in_word : TokenKind) → IsUtf8 (spelling in_word) → (cs : Conditions) → AreTests (of_tests_in (λ t. t ∷ []) cs) → AreUtf8 (parts_tokens in_word cs)
   parts_utf8 in_word u none h = tt
   parts_utf8 in_word u (more c cs) h =
-      let parts = all_parts PrintableSides (comparisons c) (of_tests_in sides cs) h in
+      let parts = all_parts PrintableTest (tests_of c) (of_tests_in (λ t. t ∷ []) cs) h in
       joined (word in_word ∷ parenthesize (is_enclosed in_word c) (condition_tokens c)) (parts_tokens in_word cs)
       (u, enclosed_utf8 (is_enclosed in_word c) (condition_tokens c) (condition_utf8 c parts.0)) (parts_utf8 in_word u cs parts.1)
 
@@ -200,7 +206,7 @@ joins_utf8 : (o : Option Join) → IfSome o PrintableJoin → AreUtf8 (option_ma
 joins_utf8 None h = tt
 joins_utf8 (Some j) h = join_utf8 j h
 
-where_utf8 : (o : Option Condition) → AreTests (option_map_or comparisons o []) → AreUtf8 (option_map_or where_tokens o [])
+where_utf8 : (o : Option Condition) → AreTests (option_map_or tests_of o []) → AreUtf8 (option_map_or where_tokens o [])
 where_utf8 None h = tt
 where_utf8 (Some c) h = (word_utf8 k.Where refl, condition_utf8 c h)
 
@@ -221,8 +227,12 @@ kind_utf8 kind_of.Int = word_utf8 k.Bigint refl
 kind_utf8 kind_of.Text = word_utf8 k.Text refl
 kind_utf8 kind_of.Bool = word_utf8 k.Boolean refl
 
+mark_utf8 : (nullable : Bool) → AreUtf8 (mark_tokens nullable)
+mark_utf8 true = (word_utf8 k.Null refl, tt)
+mark_utf8 false = tt
+
 column_utf8 : (c : Column) → FitsColumn c → AreUtf8 (column_tokens c)
-column_utf8 c h = (name_utf8 c.name h, (kind_utf8 c.kind, tt))
+column_utf8 c h = (name_utf8 c.name h, (kind_utf8 c.kind, mark_utf8 c.nullable))
 
 set_utf8 : (s : SetPart) → FitsSet s → AreUtf8 (set_tokens s)
 set_utf8 s h = (name_utf8 s.column h.0, (word_utf8 k.Equal refl, (literal_utf8 s.value h.1, tt)))

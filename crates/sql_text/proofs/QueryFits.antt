@@ -22,22 +22,22 @@ use Rattle.vo_spec.specs.declared.queries.QueryText.{QueryText}
 use Rattle.sql_text.specs.declared.faults.SqlFault.{SqlFault}
 use Rattle.vo_spec.specs.Names.{FitsName}
 use Rattle.vo_spec.specs.Values.{FitsValue, IsInRange}
-use Rattle.vo_spec.specs.Conditions.{Condition, conditions, sides, of_tests_in, comparisons, Query, query_of, FitsOperand, FitsQuery}
+use Rattle.vo_spec.specs.Conditions.{every, some, negated, test, none, more, comparison, null_test, NameTest, Condition, Conditions, conditions, sides, of_tests_in, comparisons, Query, query_of, FitsOperand, FitsQuery}
 use Rattle.sql_text.specs.Tokens.{sql, Nested, whole, primary}
 use Rattle.sql_text.specs.Rules.{before, followed_by, optional}
-use Rattle.sql_text.specs.Queries.{name, reference, ref_of, source, source_of, operand, comparison, prim, conj, disj, all_of, any_of, conditions_of, items, on_clause, join, query}
+use Rattle.sql_text.specs.Queries.{name, reference, ref_of, source, source_of, operand, test_end, name_test, prim, conj, disj, all_of, any_of, conditions_of, items, on_clause, join, query}
 use Rattle.sql_text.specs.Texts.{without_places, IsTextOf, AnswersText}
-use Rattle.sql_text.specs.Printable.{PrintableRef, PrintableSource, PrintableItems, PrintableJoin, PrintableOperand, PrintableSides, PrintableQuery}
-use Rattle.sql_text.proofs.Made.{Made, made, of_before, of_listed, all_both, all_mapped}
+use Rattle.sql_text.specs.Printable.{PrintableRef, PrintableSource, PrintableItems, PrintableJoin, PrintableOperand, PrintableTest, tests_of, PrintableQuery}
+use Rattle.sql_text.proofs.Made.{Made, made, of_before, of_listed, all_both, all_parts, all_mapped}
 use Rattle.sql_text.proofs.NameLaws.{named_fits, literal_fits}
 use Rattle.sql_text.proofs.TokenSounds.{AreUtf8, IsSound}
 use Rattle.sql_text.proofs.BatchFits.{all_sound}
 
-abbrev AreTests : List (Ref × Operand) → Type 0
-AreTests tests = AllByRecursion PrintableSides tests
+abbrev AreTests : List NameTest → Type 0
+AreTests tests = AllByRecursion PrintableTest tests
 
 abbrev FitsCondition : Condition → Type 0
-FitsCondition c = AreTests (comparisons c)
+FitsCondition c = AreTests (tests_of c)
 
 abbrev MadeFit : {A : Type 0} → Rule sql A → A → Type 0
 MadeFit p v = Made IsSound FitsCondition p v
@@ -73,9 +73,14 @@ unfolding operand
 operand_fits v (inl (r, m, e)) = subst PrintableOperand (sym e) (ref_fits r m)
 operand_fits v (inr (x, m, e)) = subst PrintableOperand (sym e) (literal_fits FitsCondition x m)
 
-test_fits : (c : Condition) → MadeFit comparison c → FitsCondition c
-unfolding comparison
-test_fits c (x, (r, (o, m)), e) = subst FitsCondition (sym e) ((ref_fits x.0 r, operand_fits x.1.1 m), tt)
+end_fits : (left : Ref) (end : Ref → NameTest) → PrintableRef left → MadeFit test_end end → PrintableTest (end left)
+unfolding test_end
+end_fits left end f (inl (is_not, _, e)) = subst (λ z. PrintableTest (z left)) (sym e) f
+end_fits left end f (inr (x, (o, m), e)) = subst (λ z. PrintableTest (z left)) (sym e) (f, operand_fits x.1 m)
+
+test_fits : (c : Condition) → MadeFit name_test c → FitsCondition c
+unfolding name_test
+test_fits c (x, (r, m), e) = subst FitsCondition (sym e) (end_fits x.0 x.1 (ref_fits x.0 r) m, tt)
 
 prim_fits : (c : Condition) → MadeFit prim c → FitsCondition c
 unfolding prim followed_by
@@ -83,9 +88,9 @@ prim_fits c (inl (part, m, e)) = subst FitsCondition (sym e) m
 prim_fits c (inr (inl (x, (m, _), e))) = subst FitsCondition (sym e) m
 prim_fits c (inr (inr m)) = test_fits c m
 
-parts_fit : (cs : List Condition) → AllByRecursion FitsCondition cs → AreTests (of_tests_in sides (conditions cs))
+parts_fit : (cs : List Condition) → AllByRecursion FitsCondition cs → AreTests (of_tests_in (λ t. t ∷ []) (conditions cs))
 parts_fit [] h = tt
-parts_fit (c ∷ cs) h = all_both _ (comparisons c) (of_tests_in sides (conditions cs)) h.0 (parts_fit cs h.1)
+parts_fit (c ∷ cs) h = all_both _ (tests_of c) (of_tests_in (λ t. t ∷ []) (conditions cs)) h.0 (parts_fit cs h.1)
 
 all_fits : (cs : List Condition) → AllByRecursion FitsCondition cs → FitsCondition (all_of cs)
 all_fits [] h = tt
@@ -113,11 +118,11 @@ nested zero n ts c s h = absurd s
 nested (suc m) whole ts c s h = disj_fits c (made IsSound FitsCondition (NestsIn conditions_of true m) (nested m) disj ts c s h)
 nested (suc m) primary ts c s h = prim_fits c (made IsSound FitsCondition (NestsIn conditions_of true m) (nested m) prim ts c s h)
 
-where_fits : (o : Option Condition) → MadeFit (optional (before k.Where disj)) o → AreTests (option_map_or comparisons o [])
+where_fits : (o : Option Condition) → MadeFit (optional (before k.Where disj)) o → AreTests (option_map_or tests_of o [])
 unfolding optional
 where_fits o (inl (c, m, e)) =
-    subst (λ z. AreTests (option_map_or comparisons z [])) (sym e) (disj_fits c (of_before IsSound FitsCondition k.Where disj c m))
-where_fits o (inr e) = subst (λ z. AreTests (option_map_or comparisons z [])) (sym e) tt
+    subst (λ z. AreTests (option_map_or tests_of z [])) (sym e) (disj_fits c (of_before IsSound FitsCondition k.Where disj c m))
+where_fits o (inr e) = subst (λ z. AreTests (option_map_or tests_of z [])) (sym e) tt
 
 -- Queries.
 
@@ -164,11 +169,40 @@ in_range : (v : Value) → FitsValue v → IsInRange v
 in_range (value.Int z) h = h
 in_range (value.Text s) h = tt
 in_range (value.Bool b) h = tt
+in_range value.Null h = tt
 
 side_fits : (o : Operand) → PrintableOperand o → FitsOperand o
 side_fits (operand_of.Ref r) h = tt
 side_fits (operand_of.Literal v) h = in_range v h
 
+abbrev AreInRange : List (Ref × Operand) → Type 0
+AreInRange pairs = AllByRecursion (λ (c : Ref × Operand). FitsOperand c.1) pairs
+
+test_in_range : (t : NameTest) → PrintableTest t → AreInRange (sides t)
+test_in_range (comparison left op right) h = (side_fits right h.1, tt)
+test_in_range (null_test left is_not) h = tt
+
+mutual
+  condition_in_range : (c : Condition) → AreTests (tests_of c) → AreInRange (comparisons c)
+  condition_in_range (every cs) h = parts_in_range cs h
+  condition_in_range (some cs) h = parts_in_range cs h
+  condition_in_range (negated c) h = condition_in_range c h
+  condition_in_range (test t) h = test_in_range t h.0
+
+  parts_in_range : (cs : Conditions) → AreTests (of_tests_in (λ t. t ∷ []) cs) → AreInRange (of_tests_in sides cs)
+  parts_in_range none h = tt
+  parts_in_range (more c cs) h =
+      let parts = all_parts PrintableTest (tests_of c) (of_tests_in (λ t. t ∷ []) cs) h in
+      all_both _ (comparisons c) (of_tests_in sides cs) (condition_in_range c parts.0) (parts_in_range cs parts.1)
+
+where_in_range : (o : Option Condition) → AreTests (option_map_or tests_of o []) → AreInRange (option_map_or comparisons o [])
+where_in_range None h = tt
+where_in_range (Some c) h = condition_in_range c h
+
+-- a query that can be printed compares with numbers in range
+pub printable_fits : (q : Query) → PrintableQuery q → FitsQuery q
+printable_fits q h = where_in_range q.condition h.tests
+
 pub answer_fits : (r : Result QueryText SqlFault) → IfOk r (λ q. PrintableQuery (query_of q)) → IfOk r (λ q. FitsQuery (query_of q))
-answer_fits (Ok q) h = all_mapped PrintableSides (λ (c : Ref × Operand). FitsOperand c.1) (option_map_or comparisons (query_of q).condition []) (λ c f. side_fits c.1 f.1) h.tests
+answer_fits (Ok q) h = printable_fits (query_of q) h
 answer_fits (Err e) h = tt

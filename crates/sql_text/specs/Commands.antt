@@ -1,5 +1,5 @@
 -- The grammar of commands, batches and scripts.
-use Rattle.std.specs.Prelude.{ℕ, ◌-◌, List, Some, None}
+use Rattle.std.specs.Prelude.{ℕ, ◌-◌, Bool, false, List, Some, None}
 use Rattle.grammar.specs.Rule.{Rule, token, both, either, many, means}
 use Rattle.sql_tokens.specs.declared.kinds.TokenKind.TheVariants as k
 use Rattle.vo_spec.specs.declared.values.Value.{Value}
@@ -12,7 +12,7 @@ use Rattle.vo_spec.specs.declared.tables.Command.TheVariants as command_of
 use Rattle.vo_spec.specs.declared.tables.Batch.{Batch}
 use Rattle.vo_spec.specs.Batches.{max_columns, max_commands}
 use Rattle.sql_text.specs.Tokens.{sql}
-use Rattle.sql_text.specs.Rules.{before, followed_by, in_parens, optional, list_of, list_to_end}
+use Rattle.sql_text.specs.Rules.{before, followed_by, in_parens, flag, list_of, list_to_end}
 use Rattle.sql_text.specs.Queries.{name, literal}
 
 -- BIGINT | TEXT | BOOLEAN
@@ -22,10 +22,14 @@ column_kind =
     (either (means (λ t. kind_of.Text) (token k.Text))
     (means (λ t. kind_of.Bool) (token k.Boolean)))
 
--- name kind [ NOT NULL ]; the mark changes nothing
+-- [ NOT NULL | NULL ]: whether the column is nullable, which it isn't without a mark
+unfoldable pub null_mark : Rule sql Bool
+null_mark = either (means (λ t. false) (before k.Not (token k.Null))) (flag k.Null)
+
+-- name kind mark
 unfoldable pub column : Rule sql Column
-column = means (λ x. record { name = x.0; kind = x.1.0 })
-    (both name (both column_kind (optional (both (token k.Not) (token k.Null)))))
+column = means (λ x. record { name = x.0; kind = x.1.0; nullable = x.1.1 })
+    (both name (both column_kind null_mark))
 
 -- column , { column , }
 abbrev pub columns : Rule sql (List Column)

@@ -1,5 +1,5 @@
 -- The queries that can be printed: each name in them is a name, and each value a value.
-use Rattle.std.specs.Prelude.{[], IfSome}
+use Rattle.std.specs.Prelude.{List, [], ◌∷◌, IfSome}
 use Rattle.std.specs.Option.{option_map_or}
 use Rattle.std.specs.List.{AllByRecursion}
 use Rattle.vo_spec.specs.declared.queries.Ref.{Ref}
@@ -11,7 +11,7 @@ use Rattle.vo_spec.specs.declared.queries.Operand.{Operand}
 use Rattle.vo_spec.specs.declared.queries.Operand.TheVariants as operand_of
 use Rattle.vo_spec.specs.Names.{FitsName}
 use Rattle.vo_spec.specs.Values.{FitsValue}
-use Rattle.vo_spec.specs.Conditions.{comparisons, Query}
+use Rattle.vo_spec.specs.Conditions.{of_tests, comparison, null_test, NameTest, Condition, Query}
 
 abbrev pub PrintableRef : Ref → Type 0
 PrintableRef r = IfSome r.qualifier FitsName × FitsName r.column
@@ -30,12 +30,16 @@ abbrev pub PrintableOperand : Operand → Type 0
 PrintableOperand (operand_of.Ref r) = PrintableRef r
 PrintableOperand (operand_of.Literal v) = FitsValue v
 
--- the two sides of a comparison
-abbrev pub PrintableSides : Ref × Operand → Type 0
-PrintableSides c = PrintableRef c.0 × PrintableOperand c.1
+abbrev pub PrintableTest : NameTest → Type 0
+PrintableTest (comparison left op right) = PrintableRef left × PrintableOperand right
+PrintableTest (null_test left is_not) = PrintableRef left
+
+-- the tests of a condition, in the order of its text
+abbrev pub tests_of : Condition → List NameTest
+tests_of = of_tests (λ t. t ∷ [])
 
 pub record PrintableQuery (q : Query) : Type 0 where
   pub items : PrintableItems q.items
   pub left : PrintableSource q.left
   pub join : IfSome q.join PrintableJoin
-  pub tests : AllByRecursion PrintableSides (option_map_or comparisons q.condition [])
+  pub tests : AllByRecursion PrintableTest (option_map_or tests_of q.condition [])

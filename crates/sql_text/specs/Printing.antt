@@ -23,7 +23,7 @@ use Rattle.vo_spec.specs.declared.tables.Column.{Column}
 use Rattle.vo_spec.specs.declared.tables.SetPart.{SetPart}
 use Rattle.vo_spec.specs.declared.tables.Command.{Command}
 use Rattle.vo_spec.specs.declared.tables.Command.TheVariants as command_of
-use Rattle.vo_spec.specs.Conditions.{every, some, negated, test, none, more, comparison, NameTest, Condition, Conditions, Query}
+use Rattle.vo_spec.specs.Conditions.{every, some, negated, test, none, more, comparison, null_test, NameTest, Condition, Conditions, Query}
 
 -- Tokens.
 
@@ -56,6 +56,7 @@ literal_token (value.Int number) = integer_token number
 literal_token (value.Text text) = quoted_token text
 literal_token (value.Bool true) = word k.True
 literal_token (value.Bool false) = word k.False
+literal_token value.Null = word k.Null
 
 -- the tokens of each, with this one between each two
 abbrev pub separate_by : {A : Type 0} → TokenKind → (A → List Token) → List A → List Token
@@ -90,9 +91,15 @@ abbrev pub operand_tokens : Operand → List Token
 operand_tokens (operand_of.Ref r) = reference_tokens r
 operand_tokens (operand_of.Literal v) = literal_token v ∷ []
 
+-- IS NULL, or IS NOT NULL
+abbrev pub null_tokens : Bool → List Token
+null_tokens true = word k.Is ∷ word k.Not ∷ word k.Null ∷ []
+null_tokens false = word k.Is ∷ word k.Null ∷ []
+
 abbrev pub test_tokens : NameTest → List Token
 test_tokens (comparison left op right) = reference_tokens left
     ++ word (operator op) ∷ operand_tokens right
+test_tokens (null_test left is_not) = reference_tokens left ++ null_tokens is_not
 
 -- whether parentheses stand round a condition that is a part of AND, OR or NOT
 abbrev pub is_enclosed : TokenKind → Condition → Bool
@@ -143,8 +150,13 @@ kind_word kind_of.Int = k.Bigint
 kind_word kind_of.Text = k.Text
 kind_word kind_of.Bool = k.Boolean
 
+-- the mark of a column, if it is nullable
+abbrev pub mark_tokens : Bool → List Token
+mark_tokens true = word k.Null ∷ []
+mark_tokens false = []
+
 abbrev pub column_tokens : Column → List Token
-column_tokens c = name_token c.name ∷ word (kind_word c.kind) ∷ []
+column_tokens c = name_token c.name ∷ word (kind_word c.kind) ∷ mark_tokens c.nullable
 
 abbrev pub set_tokens : SetPart → List Token
 set_tokens s = name_token s.column ∷ word k.Equal ∷ literal_token s.value ∷ []

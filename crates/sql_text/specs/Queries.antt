@@ -1,5 +1,5 @@
 -- The grammar of queries. Each rule is a line of it, and `means` says what value its text has.
-use Rattle.std.specs.Prelude.{ℕ, ◌-◌, true, false, List, [], ◌∷◌, Option, Some, None}
+use Rattle.std.specs.Prelude.{ℕ, ◌-◌, Bool, true, false, List, [], ◌∷◌, Option, Some, None}
 use Rattle.std.specs.Str.{str_to_ascii_lowercase}
 use Rattle.grammar.specs.Rule.{Rule, Grammar, token, both, either, means, inside}
 use Rattle.sql_tokens.specs.declared.kinds.TokenKind.{TokenKind}
@@ -16,23 +16,23 @@ use Rattle.vo_spec.specs.declared.queries.Cmp.{Cmp}
 use Rattle.vo_spec.specs.declared.queries.Cmp.TheVariants as cmp
 use Rattle.vo_spec.specs.declared.queries.Operand.{Operand}
 use Rattle.vo_spec.specs.declared.queries.Operand.TheVariants as operand_of
-use Rattle.vo_spec.specs.Conditions.{every, some, negated, test, Condition, conditions, Query}
-use Rattle.vo_spec.specs.Conditions
+use Rattle.vo_spec.specs.Conditions.{every, some, negated, test, comparison, null_test, NameTest, Condition, conditions, Query}
 use Rattle.sql_text.specs.Limits.{max_items}
 use Rattle.sql_text.specs.Tokens.{sql, Nested, whole, primary}
-use Rattle.sql_text.specs.Rules.{before, followed_by, optional, list_of}
+use Rattle.sql_text.specs.Rules.{before, followed_by, optional, flag, list_of}
 
 -- a name: its letters small
 unfoldable pub name : Rule sql (List ℕ)
 name = means (λ t. str_to_ascii_lowercase t.text) (token k.Name)
 
--- integer | string | TRUE | FALSE
+-- integer | string | TRUE | FALSE | NULL
 unfoldable pub literal : Rule sql Value
 literal =
     either (means (λ t. value.Int t.number) (token k.Integer))
     (either (means (λ t. value.Text (quoted_value t.text)) (token k.Quoted))
     (either (means (λ t. value.Bool true) (token k.True))
-    (means (λ t. value.Bool false) (token k.False))))
+    (either (means (λ t. value.Bool false) (token k.False))
+    (means (λ t. value.Null) (token k.Null)))))
 
 -- the column of a name alone, or of a qualifier and a name
 abbrev pub ref_of : List ℕ → Option (List ℕ) → Ref
@@ -65,14 +65,23 @@ operator =
 unfoldable pub operand : Rule sql Operand
 operand = either (means operand_of.Ref reference) (means operand_of.Literal literal)
 
--- ref op ( ref | literal )
-unfoldable pub comparison : Rule sql Condition
-comparison = means (λ x. test (Conditions.comparison x.0 x.1.0 x.1.1)) (both reference (both operator operand))
+-- IS [NOT] NULL: whether NOT is there, which opens no level
+unfoldable pub null_clause : Rule sql Bool
+null_clause = before k.Is (followed_by (flag k.Not) k.Null)
 
--- NOT prim | ( cond ) | comparison
+-- a test by what stands behind its reference: IS [NOT] NULL | op ( ref | literal )
+unfoldable pub test_end : Rule sql (Ref → NameTest)
+test_end = either (means (λ is_not left. null_test left is_not) null_clause)
+    (means (λ x left. comparison left x.0 x.1) (both operator operand))
+
+-- ref IS [NOT] NULL | ref op ( ref | literal )
+unfoldable pub name_test : Rule sql Condition
+name_test = means (λ x. test (x.1 x.0)) (both reference test_end)
+
+-- NOT prim | ( cond ) | test
 unfoldable pub prim : Rule sql Condition
 prim = either (means negated (inside k.Not primary))
-    (either (followed_by (inside k.LeftParen whole) k.RightParen) comparison)
+    (either (followed_by (inside k.LeftParen whole) k.RightParen) name_test)
 
 -- one part is itself
 abbrev pub all_of : List Condition → Condition

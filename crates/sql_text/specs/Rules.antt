@@ -1,5 +1,5 @@
 -- Ways to build rules.
-use Rattle.std.specs.Prelude.{ℕ, List, ◌∷◌, Option, Some, None}
+use Rattle.std.specs.Prelude.{ℕ, Bool, true, false, List, ◌∷◌, Option, Some, None}
 use Rattle.grammar.specs.Rule.{Rule, nothing, token, both, either, many, means}
 use Rattle.sql_tokens.specs.declared.kinds.TokenKind.{TokenKind}
 use Rattle.sql_tokens.specs.declared.kinds.TokenKind.TheVariants as k
@@ -20,6 +20,10 @@ in_parens p = before k.LeftParen (followed_by p k.RightParen)
 -- [ p ]
 unfoldable pub optional : {A : Type 0} → Rule sql A → Rule sql (Option A)
 optional p = either (means Some p) (nothing None)
+
+-- [ a token of this kind ]: whether it is there
+unfoldable pub flag : TokenKind → Rule sql Bool
+flag kind = either (means (λ t. true) (token kind)) (nothing false)
 
 -- p { separator p }, with at most so many separators
 unfoldable pub list_of : {A : Type 0} → Option ℕ → TokenKind → Rule sql A → Rule sql (List A)

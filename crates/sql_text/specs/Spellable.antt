@@ -18,7 +18,7 @@ use Rattle.vo_spec.specs.declared.tables.Command.TheVariants as command_of
 use Rattle.vo_spec.specs.Names.{FitsName}
 use Rattle.vo_spec.specs.Values.{FitsValue}
 use Rattle.vo_spec.specs.Batches.{FitCounted, max_commands}
-use Rattle.vo_spec.specs.Conditions.{every, some, negated, test, none, more, comparison, NameTest, Condition, Conditions, Query}
+use Rattle.vo_spec.specs.Conditions.{every, some, negated, test, none, more, comparison, null_test, NameTest, Condition, Conditions, Query}
 use Rattle.sql_text.specs.Limits.{max_items, max_nesting, max_sql_bytes}
 use Rattle.sql_text.specs.Printing.{is_enclosed, query_text, batch_text}
 
@@ -40,6 +40,7 @@ SpellableOperand (operand_of.Literal v) = FitsValue v
 
 abbrev pub SpellableTest : NameTest → Type 0
 SpellableTest (comparison left op right) = SpellableRef left × SpellableOperand right
+SpellableTest (null_test left is_not) = SpellableRef left
 
 abbrev pub HasTwo : Conditions → Type 0
 HasTwo none = ⊥

@@ -13,9 +13,9 @@ ghost use Rattle.vo_spec.specs.declared.tables.Command.{Command};
 ghost use Rattle.vo_spec.specs.declared.tables.Batch.{Batch};
 ghost use Rattle.sql_text.specs.Tokens.{sql};
 ghost use Rattle.sql_text.specs.Parsing.{left_of, Reads, KeepsLevels, KeepsTokens};
-ghost use Rattle.sql_text.specs.Rules.{before, followed_by, in_parens, optional, list_of, list_to_end};
+ghost use Rattle.sql_text.specs.Rules.{before, followed_by, in_parens, list_of, list_to_end};
 ghost use Rattle.sql_text.specs.Queries.{name, literal};
-ghost use Rattle.sql_text.specs.Commands.{column_kind, column, columns, key_clause, create, drop_table, literals, insert, set_part, set_parts, update, delete, command, commands, batch, script};
+ghost use Rattle.sql_text.specs.Commands.{column_kind, null_mark, column, columns, key_clause, create, drop_table, literals, insert, set_part, set_parts, update, delete, command, commands, batch, script};
 
 use crate::parse_error::ParseError;
 use crate::parser::{Parser, push_parsed};
@@ -45,34 +45,31 @@ impl<'a> Parser<'a> {
         }
     }
 
-    /// The mark NOT NULL, if it is there.
-    #[tactic(auto, unfolding(crate::specs::Rules::optional))]
-    fn not_null(&mut self) -> Result<Option<(Lexeme<'a>, Lexeme<'a>)>, ParseError>
-        ensures value { Reads (option_map (λ x. (token_of x.0, token_of x.1)))
-            (optional (both (token k.Not) (token k.Null))) self.old result self.new }
+    /// NOT NULL, NULL or no mark: whether the column is nullable.
+    #[tactic(auto, unfolding(crate::specs::Commands::null_mark, crate::specs::Rules::before))]
+    fn null_mark(&mut self) -> Result<bool, ParseError>
+        ensures value { Reads (λ x. x) null_mark self.old result self.new }
         ensures levels { KeepsLevels self.old self.new }
         ensures list { KeepsTokens self.old self.new }
     {
         if self.sees(TokenKind::Not) {
-            let not = self.take(TokenKind::Not);
-            let null = self.expect(TokenKind::Null)?;
-            Ok(Some((not, null)))
+            self.take(TokenKind::Not);
+            self.expect(TokenKind::Null)?;
+            Ok(false)
         } else {
-            Ok(None)
+            Ok(self.takes(TokenKind::Null))
         }
     }
 
-    /// A column's kind and its mark.
-    fn marked_kind(&mut self) -> Result<(Kind, Option<(Lexeme<'a>, Lexeme<'a>)>), ParseError>
-        ensures value { Reads (λ x. (x.0, option_map (λ y. (token_of y.0, token_of y.1)) x.1))
-            (both column_kind (optional (both (token k.Not) (token k.Null)))) self.old result
-            self.new }
+    /// A column's kind, and whether it is nullable.
+    fn marked_kind(&mut self) -> Result<(Kind, bool), ParseError>
+        ensures value { Reads (λ x. x) (both column_kind null_mark) self.old result self.new }
         ensures levels { KeepsLevels self.old self.new }
         ensures list { KeepsTokens self.old self.new }
     {
         let kind = self.column_kind()?;
-        let mark = self.not_null()?;
-        Ok((kind, mark))
+        let nullable = self.null_mark()?;
+        Ok((kind, nullable))
     }
 
     /// A column and the comma behind it.
@@ -83,8 +80,13 @@ impl<'a> Parser<'a> {
         ensures list { KeepsTokens self.old self.new }
     {
         let name = self.name(alloc)?;
-        let (kind, _) = self.marked_kind()?;
-        self.then_expect(Column { name, kind }, TokenKind::Comma)
+        let (kind, nullable) = self.marked_kind()?;
+        let column = Column {
+            name,
+            kind,
+            nullable,
+        };
+        self.then_expect(column, TokenKind::Comma)
     }
 
     /// Columns with a comma behind each, at most 32.

@@ -6,7 +6,7 @@ ghost use Rattle.sql_tokens.specs.declared.kinds.TokenKind.TheVariants as k;
 ghost use Rattle.sql_tokens.specs.Lex.{token_of};
 ghost use Rattle.sql_text.specs.Tokens.{sql};
 ghost use Rattle.sql_text.specs.Parsing.{left_of, Reads, KeepsLevels, KeepsTokens};
-ghost use Rattle.sql_text.specs.Queries.{comparison, prim, conj, disj, all_of, any_of};
+ghost use Rattle.sql_text.specs.Queries.{null_clause, name_test, prim, conj, disj, all_of, any_of};
 
 use crate::parse_error::ParseError;
 use crate::parser::{Parser, push_parsed};
@@ -42,13 +42,29 @@ fn any_of(mut parts: Vec<Cond>) -> Cond
 }
 
 impl<'a> Parser<'a> {
-    #[tactic(auto, unfolding(crate::specs::Queries::comparison))]
-    fn comparison(&mut self, alloc: Global) -> Result<Cond, ParseError>
-        ensures value { Reads condition_of comparison self.old result self.new }
+    /// IS [NOT] NULL: whether NOT is there.
+    #[tactic(auto, unfolding(crate::specs::Queries::null_clause, crate::specs::Rules::before, crate::specs::Rules::followed_by))]
+    fn null_clause(&mut self) -> Result<bool, ParseError>
+        ensures value { Reads (λ x. x) null_clause self.old result self.new }
+        ensures levels { KeepsLevels self.old self.new }
+        ensures list { KeepsTokens self.old self.new }
+    {
+        self.expect(TokenKind::Is)?;
+        let negated = self.takes(TokenKind::Not);
+        self.then_expect(negated, TokenKind::Null)
+    }
+
+    #[tactic(auto, unfolding(crate::specs::Queries::name_test, crate::specs::Queries::test_end), using(crate::proofs::Firsts::first_null_clause))]
+    fn test(&mut self, alloc: Global) -> Result<Cond, ParseError>
+        ensures value { Reads condition_of name_test self.old result self.new }
         ensures levels { KeepsLevels self.old self.new }
         ensures list { KeepsTokens self.old self.new }
     {
         let left = self.reference(alloc)?;
+        if self.sees(TokenKind::Is) {
+            let negated = self.null_clause()?;
+            return Ok(Cond::IsNull { left, negated });
+        }
         let op = self.operator()?;
         let right = self.operand(alloc)?;
         Ok(Cond::Test { left, op, right })
@@ -117,7 +133,7 @@ impl<'a> Parser<'a> {
         } else if self.sees(TokenKind::LeftParen) {
             self.condition_in_parens(alloc)
         } else {
-            self.comparison(alloc)
+            self.test(alloc)
         }
     }
 

@@ -79,9 +79,12 @@ impl<'a> Parser<'a> {
         } else if self.sees(TokenKind::True) {
             self.take(TokenKind::True);
             Ok(Value::Bool(true))
-        } else {
-            self.expect(TokenKind::False)?;
+        } else if self.sees(TokenKind::False) {
+            self.take(TokenKind::False);
             Ok(Value::Bool(false))
+        } else {
+            self.expect(TokenKind::Null)?;
+            Ok(Value::Null)
         }
     }
 

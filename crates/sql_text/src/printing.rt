@@ -77,6 +77,7 @@ impl Print for Value {
             Value::Text(text) => put_quoted(out, text.as_bytes()),
             Value::Bool(true) => put_word(out, TokenKind::True),
             Value::Bool(false) => put_word(out, TokenKind::False),
+            Value::Null => put_word(out, TokenKind::Null),
         }
     }
 }

@@ -6,7 +6,7 @@ ghost use Rattle.sql_text.specs.Commands.{batch as batch_rule};
 ghost use Rattle.sql_text.specs.Limits.{max_sql_bytes};
 ghost use Rattle.sql_text.specs.Texts.{IsTextOf};
 ghost use Rattle.sql_text.specs.Spellable.{SpellableBatch};
-ghost use Rattle.sql_text.specs.Printing.{word, kind_word, column_tokens, set_tokens, key_tokens, columns_tokens, command_tokens, batch_text, text_of};
+ghost use Rattle.sql_text.specs.Printing.{word, kind_word, mark_tokens, column_tokens, set_tokens, key_tokens, columns_tokens, command_tokens, batch_text, text_of};
 
 use crate::printing::{Print, print_separated, print_terminated, put_word, without_last_blank};
 use sql_tokens::TokenKind;
@@ -23,12 +23,22 @@ fn kind_word(kind: Kind) -> TokenKind
     }
 }
 
+fn print_mark(out: &mut Vec<u8>, nullable: bool) -> Result<(), AllocError>
+    ensures { OnOk result (out.new.items ≡ out.old.items ++ text_of (mark_tokens nullable)) }
+{
+    if nullable {
+        put_word(out, TokenKind::Null)?;
+    }
+    Ok(())
+}
+
 impl Print for Column {
     ghost tokens = { column_tokens };
 
     fn print(&self, alloc: Global, out: &mut Vec<u8>) -> Result<(), AllocError> {
         self.name.print(alloc, out)?;
-        put_word(out, kind_word(self.kind))
+        put_word(out, kind_word(self.kind))?;
+        print_mark(out, self.nullable)
     }
 }
 

@@ -7,7 +7,7 @@ ghost use Rattle.sql_text.specs.Limits.{max_sql_bytes};
 ghost use Rattle.sql_text.specs.Texts.{IsTextOf};
 ghost use Rattle.sql_text.specs.Printable.{PrintableQuery};
 ghost use Rattle.sql_text.specs.Spellable.{SpellableQuery};
-ghost use Rattle.sql_text.specs.Printing.{word, reference_tokens, source_tokens, operator, operand_tokens, is_enclosed, parenthesize, condition_tokens, parts_tokens, items_tokens, join_tokens, where_tokens, query_tokens, query_text, text_of};
+ghost use Rattle.sql_text.specs.Printing.{word, reference_tokens, source_tokens, operator, operand_tokens, null_tokens, is_enclosed, parenthesize, condition_tokens, parts_tokens, items_tokens, join_tokens, where_tokens, query_tokens, query_text, text_of};
 
 use crate::printing::{Print, print_separated, put_word, without_last_blank};
 use sql_tokens::TokenKind;
@@ -67,7 +67,7 @@ fn is_enclosed(in_word: TokenKind, part: &Cond) -> bool
     match part {
         Cond::All(_) => !in_word.is(TokenKind::Or),
         Cond::Any(_) => true,
-        Cond::Not(_) | Cond::Test { .. } => false,
+        Cond::Not(_) | Cond::Test { .. } | Cond::IsNull { .. } => false,
     }
 }
 
@@ -84,6 +84,23 @@ fn print_test(
     left.print(alloc, out)?;
     put_word(out, operator(op))?;
     right.print(alloc, out)
+}
+
+fn print_null_test(
+    alloc: Global,
+    out: &mut Vec<u8>,
+    left: &Ref,
+    negated: bool,
+) -> Result<(), AllocError>
+    ensures { OnOk result (out.new.items ≡ out.old.items
+        ++ text_of (reference_tokens left.now ++ null_tokens negated)) }
+{
+    left.print(alloc, out)?;
+    put_word(out, TokenKind::Is)?;
+    if negated {
+        put_word(out, TokenKind::Not)?;
+    }
+    put_word(out, TokenKind::Null)
 }
 
 /// Prints a part of a NOT, an AND or an OR.
@@ -163,6 +180,7 @@ fn print_condition(alloc: Global, out: &mut Vec<u8>, cond: &Cond) -> Result<(), 
         Cond::Any(parts) => print_parts(alloc, out, parts.as_slice(), TokenKind::Or),
         Cond::Not(part) => print_negated(alloc, out, part),
         Cond::Test { left, op, right } => print_test(alloc, out, left, *op, right),
+        Cond::IsNull { left, negated } => print_null_test(alloc, out, left, *negated),
     }
 }
 

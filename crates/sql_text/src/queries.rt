@@ -7,7 +7,7 @@ ghost use Rattle.sql_tokens.specs.declared.kinds.TokenKind.TheVariants as k;
 ghost use Rattle.vo_spec.specs.Conditions.{condition_of, query_of};
 ghost use Rattle.sql_text.specs.Tokens.{sql};
 ghost use Rattle.sql_text.specs.Parsing.{left_of, Reads, KeepsLevels, KeepsTokens};
-ghost use Rattle.sql_text.specs.Rules.{before, optional};
+ghost use Rattle.sql_text.specs.Rules.{before, optional, flag};
 ghost use Rattle.sql_text.specs.Queries.{reference, source, items, on_clause, join, disj, query, conditions_of};
 
 use crate::parse_error::ParseError;
@@ -30,6 +30,21 @@ impl<'a> Parser<'a> {
         } else {
             None
         }
+    }
+
+    /// Whether a token of this kind is next, which is then taken.
+    #[tactic(auto, unfolding(crate::specs::Rules::flag))]
+    pub fn takes(&mut self, kind: TokenKind) -> bool
+        ensures value { read (reader conditions_of self.old.levels) (flag kind)
+            (left_of self.old) ≡ (Ok result, left_of self.new) }
+        ensures levels { KeepsLevels self.old self.new }
+        ensures list { KeepsTokens self.old self.new }
+    {
+        let is_next = self.sees(kind);
+        if is_next {
+            self.take(kind);
+        }
+        is_next
     }
 
     #[tactic(auto, unfolding(crate::specs::Queries::items))]
