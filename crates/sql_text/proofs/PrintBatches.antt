@@ -1,5 +1,5 @@
 -- Printed commands are spelled by the rules of the grammar, and printed texts are read again.
-use Rattle.std.proofs.Common.{◌≡◌, ℕ, zero, suc, ◌≤◌, Bool, true, false, List, [], ◌∷◌, ◌++◌, length, Some, None, refl, sym, ap, ◌∙◌, subst, inl, inr}
+use Rattle.std.proofs.Common.{◌≡◌, ℕ, zero, suc, ◌≤◌, Bool, true, false, List, [], ◌∷◌, ◌++◌, length, Some, refl, sym, ap, ◌∙◌, subst, inl, inr}
 use Rattle.std.specs.List.{AllByRecursion}
 use Rattle.grammar.specs.Rule.{Rule, nothing, token, both, either, many, means, inside}
 use Rattle.grammar.specs.Text.{Nests, Repeats, Spells, NestsIn, IsText}
