@@ -227,6 +227,7 @@ abbrev with_magic : Magic → Catalog → Option Catalog
 with_magic magic c = where_true (same_magic magic (magic_of c)) c
 
 pub of_record_found : (magic : Magic) (bytes : List ℕ) (c : Catalog) → IsBytes bytes → catalog_of_record magic bytes ≡ Some c → IsCatalog bytes c × (magic ≡ magic_of c)
+unfolding catalog_of_record
 of_record_found magic bytes c fits e =
     let a = bound (whole (catalog_at bytes)) (with_magic magic) c e in
     let t = tested (same_magic magic (magic_of a.0)) a.0 c a.2 in
@@ -235,6 +236,7 @@ of_record_found magic bytes c fits e =
     (record { fits = f.1; encoded = f.0 ∙ append-nil (catalog_bytes a.0) }, same_is magic (magic_of a.0) t.0)
 
 pub of_record_again : (c : Catalog) → FitsCatalog c → catalog_of_record (magic_of c) (catalog_bytes c) ≡ Some c
+unfolding catalog_of_record
 of_record_again c fits =
     let read : whole (catalog_at (catalog_bytes c)) ≡ Some c = ap (λ (t : List ℕ). whole (catalog_at t)) (sym (append-nil (catalog_bytes c))) ∙ ap whole (catalog_again c [] fits) in
     ap (λ (o : Option Catalog). o >>= with_magic (magic_of c)) read ∙ rw (same_self (magic_of c)) refl

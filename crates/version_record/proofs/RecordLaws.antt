@@ -1,6 +1,6 @@
 -- A record that is read is spelled so, and what is spelled so is read.
 use Rattle.std.proofs.Common.{◌≡◌, ℕ, ◌^◌, ◌<◌, ◌≤◌, true, false, ltb, List, [], ◌∷◌, ◌++◌, length, take, drop, Option, Some, None, codes, refl, sym, ap, subst, ◌∙◌, append_assoc, append-nil, arith, inl, inr}
-use Rattle.std.specs.Prelude.{bytes_eq, if◌then◌else◌, IfSome}
+use Rattle.std.specs.Prelude.{bytes_eq, IfSome}
 use Rattle.std.proofs.lemmas.Bool.{ltb-false, le-ltb}
 use Rattle.std.proofs.lemmas.List.{take_at, drop_at, take-append-drop, length-append, length-take}
 use Rattle.std.proofs.lemmas.Slice.Eq.{bytes_eq-Decides}
@@ -92,7 +92,7 @@ word_of : (m : Magic) → magic_of_word (magic_bytes m) ≡ Some m
 word_of Vrec = refl
 word_of Vrc2 = refl
 
-magic_long : (m : Magic) → length (magic_bytes m) ≡ 4
+pub magic_long : (m : Magic) → length (magic_bytes m) ≡ 4
 magic_long Vrec = refl
 magic_long Vrc2 = refl
 

@@ -74,6 +74,6 @@ same_magic Vrc2 Vrec = false
 same_magic Vrc2 Vrc2 = true
 
 -- the catalog that all the bytes are, where its record begins with this
-abbrev pub catalog_of_record : Magic → List ℕ → Option Catalog
+unfoldable pub catalog_of_record : Magic → List ℕ → Option Catalog
 catalog_of_record magic bytes = whole (catalog_at bytes) >>=
     λ catalog. where_true (same_magic magic (magic_of catalog)) catalog

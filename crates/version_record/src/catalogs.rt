@@ -92,6 +92,7 @@ fn catalog_in(alloc: Global, bytes: &[u8]) -> Result<Catalog, ReadFault>
 }
 
 /// The catalog that all the bytes are, if its record begins with this.
+#[tactic(auto, unfolding(crate::specs::Reading::catalog_of_record))]
 pub fn catalog_of_record(alloc: Global, magic: Magic, bytes: &[u8]) -> Result<Catalog, ReadFault>
     ensures { ReadsAs (λ catalog. catalog) result (catalog_of_record magic bytes.now) }
 {

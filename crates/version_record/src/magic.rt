@@ -1,12 +1,12 @@
 //! What records begin with, which their catalogs decide.
 ghost use Rattle.std.specs.Prelude.{◌≡◌};
 ghost use Rattle.std.specs.List.{list_any};
-ghost use Rattle.vo_spec.specs.Records.{magic_bytes, magic_of};
+ghost use Rattle.vo_spec.specs.Records.{has_nullable, magic_bytes, magic_of};
 ghost use Rattle.row_bytes.specs.Fields.{Found};
 ghost use Rattle.version_record.specs.Reading.{magic_at, magic_of_word, same_magic};
 
 use row_bytes::Cursor;
-use vo_spec::{Catalog, Magic, Schema};
+use vo_spec::{Catalog, CatalogTable, Magic, Schema};
 
 pub(crate) fn magic_bytes(magic: Magic) -> [u8; 4]
     ensures { result ≡ magic_bytes magic }
@@ -60,12 +60,18 @@ pub(crate) fn has_nullable(schema: &Schema) -> bool
         .any(|column| column.nullable)
 }
 
+/// Whether some column of some table is nullable.
+fn have_nullable(tables: &[CatalogTable]) -> bool
+    ensures { result ≡ list_any has_nullable tables.now }
+{
+    tables.iter().any(|table| has_nullable(&table.schema))
+}
+
 /// What the record of a catalog begins with.
 pub(crate) fn magic_of(catalog: &Catalog) -> Magic
     ensures { result ≡ magic_of catalog.now }
 {
-    let tables = catalog.tables.as_slice();
-    if tables.iter().any(|table| has_nullable(&table.schema)) {
+    if have_nullable(catalog.tables.as_slice()) {
         Magic::Vrc2
     } else {
         Magic::Vrec

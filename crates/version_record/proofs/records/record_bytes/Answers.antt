@@ -1,4 +1,4 @@
-use Rattle.std.proofs.Common.{◌≡◌, ℕ, ◌+◌, List, [], ◌++◌, length, drop, replicate, refl, ap, ◌∙◌, append-nil, length-append, arith}
+use Rattle.std.proofs.Common.{◌≡◌, ℕ, List, [], ◌++◌, length, drop, replicate, refl, ap, ◌∙◌, append-nil, length-append, arith}
 use Rattle.vo_spec.specs.Records.{record_bytes}
 use Rattle.version_record.proofs.Laid.{laid}
 use Rattle.version_record.proofs.records.record_bytes.Goals as goal
