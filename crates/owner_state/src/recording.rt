@@ -19,7 +19,7 @@ use vo_spec::Record;
 pub fn record_of(key: &PublicKey, version: u64, tables: &StoredTables) -> Record
     ensures { result ≡ honest_record key.now version tables.now }
 {
-    tables.record(*key.id(), version)
+    tables.record_of(*key.id(), version)
 }
 
 /// The record of these roots.
