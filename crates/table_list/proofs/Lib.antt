@@ -1,4 +1,5 @@
 pub mod KindLaws
+pub mod NullLaws
 pub mod PlainLaws
 pub mod PutLaws
 pub mod CommandLaws

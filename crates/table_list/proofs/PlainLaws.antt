@@ -1,5 +1,5 @@
 -- Plain tables by name, and their table headers.
-use Rattle.std.proofs.Common.{◌≡◌, ℕ, Bool, true, false, cond, List, [], ◌∷◌, map, Option, Some, None, refl}
+use Rattle.std.proofs.Common.{◌≡◌, ℕ, Bool, true, false, cond, List, [], ◌∷◌, map, Option, Some, refl}
 use Rattle.std.specs.Prelude.{option_map, bytes_eq}
 use Rattle.vo_spec.specs.declared.tables.Table.{Table}
 use Rattle.vo_spec.specs.Tables.{TableHeader, table_header_of, table_header_named, table_named}

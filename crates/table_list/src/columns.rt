@@ -2,11 +2,12 @@
 ghost use Rattle.std.specs.Prelude.{◌≡◌, ◌≤◌, length, map, bytes_eq, IfOk};
 ghost use Rattle.std.specs.List.{list_any};
 ghost use Rattle.vo_spec.specs.Tables.{column_at, column_number, has_column, is_key, suits, are_of_kinds, has_twice, is_bad_schema};
-ghost use Rattle.vo_spec.specs.Values.{kind_of, same_kind};
+ghost use Rattle.vo_spec.specs.Values.{same_kind, is_of_kind};
 ghost use Rattle.vo_spec.specs.Checks.{key_kind};
 ghost use Rattle.vo_spec.specs.Lent.{value_of};
 ghost use Rattle.vo_spec.specs.Batches.{max_columns};
 
+use crate::nulls::is_nullable_at;
 use std::alloc::{AllocError, Global};
 use vo_spec::{Column, Kind, List, Name, Schema, Value, ValueRef};
 
@@ -37,16 +38,6 @@ pub(crate) fn is_key(schema: &Schema, name: &[u8]) -> bool
     column_number(schema.columns.as_slice(), name) == schema.key as usize
 }
 
-pub fn kind_of(value: &Value) -> Kind
-    ensures { result ≡ kind_of value.now }
-{
-    match value {
-        Value::Int(_) => Kind::Int,
-        Value::Text(_) => Kind::Text,
-        Value::Bool(_) => Kind::Bool,
-    }
-}
-
 pub fn same_kind(a: Kind, b: Kind) -> bool
     ensures { result ≡ same_kind a b }
 {
@@ -56,15 +47,16 @@ pub fn same_kind(a: Kind, b: Kind) -> bool
     )
 }
 
-/// Whether a column of this kind takes the value.
+/// Whether the value is of the kind. NULL is of each.
 // Inlined: asked of each cell that is shown.
 #[inline(always)]
 pub fn takes(kind: Kind, value: ValueRef<'_>) -> bool
-    ensures { result ≡ same_kind kind (kind_of (value_of value.entry)) }
+    ensures { result ≡ is_of_kind kind (value_of value.entry) }
 {
     matches!(
         (kind, value),
-        (Kind::Int, ValueRef::Int(_))
+        (_, ValueRef::Null)
+            | (Kind::Int, ValueRef::Int(_))
             | (Kind::Text, ValueRef::Text(_))
             | (Kind::Bool, ValueRef::Bool(_))
     )
@@ -146,13 +138,16 @@ pub fn has_twice(columns: &[Column]) -> bool
     false
 }
 
-/// Whether this is no schema: two columns of one name, or a key that is no column or a BOOLEAN.
+/// Whether this is no schema: two columns of one name, or a key that is no column, a BOOLEAN or
+/// nullable.
 pub(crate) fn is_bad_schema(columns: &[Column], key: &[u8]) -> bool
     ensures { result ≡ is_bad_schema columns.now key.now }
 {
+    let number = column_number(columns, key);
     has_twice(columns)
         || !has_column(columns, key)
-        || same_kind(kind_at(columns, column_number(columns, key)), Kind::Bool)
+        || same_kind(kind_at(columns, number), Kind::Bool)
+        || is_nullable_at(columns, number)
 }
 
 fn copy_column(alloc: Global, column: &Column) -> Result<Column, AllocError>
@@ -161,6 +156,7 @@ fn copy_column(alloc: Global, column: &Column) -> Result<Column, AllocError>
     Ok(Column {
         name: column.name.copy(alloc)?,
         kind: column.kind,
+        nullable: column.nullable,
     })
 }
 

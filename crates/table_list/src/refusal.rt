@@ -6,7 +6,8 @@ ghost use Rattle.vo_spec.specs.Tables.{TableHeader, table_header_named, create_t
 ghost use Rattle.table_list.specs.TableHeaders.{command_name, table_header_seen};
 
 use crate::columns::{are_of_kinds, has_column, is_bad_schema, is_key, suits};
-use crate::sets::{all_suit, have_columns, sets_key, sets_twice};
+use crate::nulls::{allow_each, is_null_at};
+use crate::sets::{all_suit, gives_null, have_columns, is_bad_set};
 use vo_spec::{
     Column, Command, CommandFault, MAX_KEY, MAX_ROWS, MAX_TABLES, Name, Schema, SetPart, Value,
 };
@@ -47,6 +48,7 @@ fn key_length(values: &[Value], number: usize) -> usize
     ensures { result ≡ length (key_of (value_at values.now number)) }
 {
     match values.get(number) {
+        Some(Value::Null) => 0,
         Some(Value::Int(_)) => 8,
         Some(Value::Text(text)) => text.as_bytes().len(),
         Some(Value::Bool(_)) => 1,
@@ -67,7 +69,11 @@ pub(crate) fn insert_fault(
     if !are_of_kinds(columns, values) {
         return Some(CommandFault::TypeMismatch);
     }
-    if key_length(values, table_header.schema.key as usize) > MAX_KEY {
+    let key = table_header.schema.key as usize;
+    if is_null_at(values, key) || !allow_each(columns, values) {
+        return Some(CommandFault::NotNull);
+    }
+    if key_length(values, key) > MAX_KEY {
         return Some(CommandFault::KeyTooLong);
     }
     if table_header.count >= MAX_ROWS {
@@ -85,18 +91,21 @@ pub(crate) fn update_fault(
     ensures { result ≡ first_of (update_tests sets.now column.now value.now
         (table_header_seen table_header.entry)) }
 {
-    let columns = table_header.schema.columns.as_slice();
-    if !(have_columns(columns, sets) && has_column(columns, column)) {
+    let schema = table_header.schema;
+    if !have_columns(schema, sets, column) {
         return Some(CommandFault::NoColumn);
     }
-    if !is_key(table_header.schema, column) {
+    if !is_key(schema, column) {
         return Some(CommandFault::NotKey);
     }
-    if sets_key(table_header.schema, sets) || sets_twice(sets) {
+    if is_bad_set(schema, sets) {
         return Some(CommandFault::BadSet);
     }
-    if !(all_suit(columns, sets) && suits(columns, column, value)) {
+    if !all_suit(schema, sets, column, value) {
         return Some(CommandFault::TypeMismatch);
+    }
+    if gives_null(schema, sets, value) {
+        return Some(CommandFault::NotNull);
     }
     None
 }
@@ -118,6 +127,9 @@ pub(crate) fn delete_fault(
     }
     if !suits(columns, column, value) {
         return Some(CommandFault::TypeMismatch);
+    }
+    if value.is_null() {
+        return Some(CommandFault::NotNull);
     }
     None
 }
