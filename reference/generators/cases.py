@@ -173,7 +173,9 @@ def _answers_at(rng, world, texts, versions):
 
 def turns(count):
     """The script of so many batches, each second of which drops the table that the one before makes."""
-    batches = b"CREATE TABLE t (id BIGINT, PRIMARY KEY (id)); COMMIT; ", b"DROP TABLE t; COMMIT; "
+    note = b", note TEXT NULL" if has("nulls") else b""
+    batches = (b"CREATE TABLE t (id BIGINT" + note + b", PRIMARY KEY (id)); COMMIT; ",
+               b"DROP TABLE t; COMMIT; ")
     return b"".join(batches[number % 2] for number in range(count))
 
 

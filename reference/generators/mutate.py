@@ -8,14 +8,16 @@ take the secret key, so that trees of any shape stand under a valid signature.
 """
 
 import random
+from dataclasses import replace
 
 from ..binding import bind
-from ..catalog import Catalog, CatalogTable, Record
+from ..catalog import MAGICS, Catalog, CatalogTable, Record
 from ..check import check_of
 from ..faults import BadForm, CheckFault, OwnerFault
 from ..formats import read_proofs, read_reply, write_proofs, write_reply
 from ..lines import answer_lines, fault_words
 from ..plan import MAIN, Plan
+from ..stages import has
 from ..tree import (
     Entry, INNERS, Inner, Leaf, Stub, TChild, TEntry, TInner, TLeaf, cell_digest, digest_of,
     row_digest)
@@ -139,6 +141,22 @@ def catalog_variants(reply):
         less = dict(by_name)
         del less[name]
         yield f"{name} taken out", rewrite(reply, catalog=Catalog(less))
+    for name, changed in marked_catalogs(reply.catalog):
+        yield name, rewrite(reply, catalog=changed)
+
+
+def marked_catalogs(catalog):
+    """Catalogs with one column that may be NULL where it may not, or the other way round; of a key
+    such are none."""
+    for name, table in catalog.by_name.items() if has("nulls") else ():
+        columns = table.schema.columns
+        for number, column in enumerate(columns):
+            turned = (*columns[:number], replace(column, nullable=not column.nullable),
+                      *columns[number + 1:])
+            schema = replace(table.schema, columns=turned)
+            changed = CatalogTable(schema, table.rows, table.root, table.side_roots)
+            yield f"{name}'s column {number} marked otherwise", Catalog(
+                {**catalog.by_name, name: changed})
 
 
 def rebuilt(node, slots):
@@ -374,10 +392,11 @@ def opened_variants(data, version, query):
             yield f"tree {number}: {what}", rewrite(reply, trees=trees)
 
 
-def resign(secret, reply, catalog, trees, version=None):
-    """A reply with that catalog and those trees, truly signed."""
+def resign(secret, reply, catalog, trees, version=None, magic=None):
+    """A reply with that catalog and those trees, truly signed; the record has the catalog's magic,
+    or another one."""
     version = reply.rec.version if version is None else version
-    rec = Record(secret.ident, version, catalog.digest(), catalog.magic())
+    rec = Record(secret.ident, version, catalog.digest(), magic or catalog.magic())
     return write_reply(rec, secret.sign(version, rec.bytes()), catalog, trees)
 
 
@@ -410,6 +429,21 @@ def resigned_variants(secret, data, query, rng=None, some=None):
     def make(trees):
         return resign(secret, reply, rooted(reply.catalog, places, trees), trees)
     yield from safe(changes, make)
+    yield from marked_variants(secret, reply, rng or random.Random(0), some)
+
+
+def marked_variants(secret, reply, rng, some):
+    """Records with another magic than their catalog's, and catalogs with a column marked otherwise,
+    a key or one that has a shown NULL among them; all of them truly signed."""
+    for magic in MAGICS:
+        if magic != reply.catalog.magic():
+            yield f"signed with {magic!r}", resign(secret, reply, reply.catalog, reply.trees,
+                                                   magic=magic)
+    marked = list(marked_catalogs(reply.catalog))
+    if some is not None and len(marked) > 1 + some // 8:
+        marked = rng.sample(marked, 1 + some // 8)
+    for name, catalog in marked:
+        yield name + ", signed", resign(secret, reply, catalog, reply.trees)
 
 
 def owner_verdict(roots, batch, proofs):

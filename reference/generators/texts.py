@@ -7,8 +7,11 @@ GOOD_TEXTS = [
     "SELECT id FROM t WHERE NOT (id = 1 OR name <> 'it''s') AND flag = TRUE LIMIT 5",
     "SELECT COUNT(*), SUM(t.qty) FROM t WHERE id >= -3 AND id != 007;",
     "SELECT a FROM t WHERE a IS NOT NULL OR b IS NULL AND c <= NULL",
+    "SELECT t.a FROM t WHERE NOT (t.a = NULL OR NOT t.b IS NOT NULL) AND (c IS NULL)",
 ]
 GOOD_SCRIPTS = [
+    "CREATE TABLE t (id BIGINT, a TEXT NULL, b BOOLEAN NULL, PRIMARY KEY (id)); "
+    "INSERT INTO t VALUES (1, NULL, NULL); COMMIT; UPDATE t SET a = NULL WHERE id = 1; COMMIT;",
     "CREATE TABLE t (id BIGINT, name TEXT NULL, f BOOLEAN NOT NULL, PRIMARY KEY (id), INDEX (f)); "
     "COMMIT;",
     "CREATE TABLE t (id BIGINT, q BIGINT, s TEXT, PRIMARY KEY (id), INDEX (s), SUM (q)); "
@@ -37,6 +40,11 @@ ODD_QUERIES = [
     "SELECT * FROM a, b", "SELECT * FROM t WHERE", "SELECT * FROM t WHERE 1 = a",
     "SELECT * FROM t WHERE a", "SELECT * FROM t WHERE a = b.c", "SELECT * FROM t WHERE a IS",
     "SELECT * FROM t WHERE a IS NOT", "SELECT * FROM t WHERE a IS 1",
+    "SELECT * FROM t WHERE a IS NOT NOT NULL", "SELECT * FROM t WHERE a IS NULL NULL",
+    "SELECT * FROM t WHERE a NOT NULL", "SELECT * FROM t WHERE NULL IS NULL",
+    "SELECT * FROM t WHERE a = NULL IS NULL", "SELECT * FROM t WHERE a IS TRUE",
+    "SELECT NULL FROM t", "SELECT * FROM t WHERE a IS (NULL)", "SELECT * FROM t WHERE IS NULL",
+    "SELECT * FROM t JOIN u ON a = NULL", "SELECT * FROM null", "SELECT is FROM t",
     "SELECT * FROM t WHERE a = 1 AND", "SELECT * FROM t WHERE (a = 1",
     "SELECT * FROM t WHERE a = 1)", "SELECT * FROM t WHERE a NOT = 1", "SELECT * FROM t JOIN u",
     "SELECT * FROM t INNER u", "SELECT * FROM t JOIN u ON a < b", "SELECT * FROM t JOIN u ON a = 1",
@@ -49,6 +57,14 @@ ODD_SCRIPTS = [
     "CREATE TABLE t (PRIMARY KEY (id)); COMMIT;", "CREATE TABLE t (id BIGINT); COMMIT;",
     "CREATE TABLE t (id BIGINT NOT, PRIMARY KEY (id)); COMMIT;",
     "CREATE TABLE t (id BIGINT NULL NULL, PRIMARY KEY (id)); COMMIT;",
+    "CREATE TABLE t (id BIGINT, a TEXT NOT NULL NULL, PRIMARY KEY (id)); COMMIT;",
+    "CREATE TABLE t (id BIGINT, a TEXT NULL NOT NULL, PRIMARY KEY (id)); COMMIT;",
+    "CREATE TABLE t (id BIGINT, a NULL, PRIMARY KEY (id)); COMMIT;",
+    "CREATE TABLE t (id BIGINT, a NULL TEXT, PRIMARY KEY (id)); COMMIT;",
+    "INSERT INTO t VALUES (NULL, NOT NULL); COMMIT;", "INSERT INTO t VALUES (NULL, NULL); COMMIT;",
+    "UPDATE t SET a = NULL, b = NULL WHERE id = NULL; COMMIT;",
+    "UPDATE t SET a IS NULL WHERE id = 1; COMMIT;", "DELETE FROM t WHERE id IS NULL; COMMIT;",
+    "DELETE FROM t WHERE id = NULL; COMMIT;",
     "INSERT INTO t VALUES (); COMMIT;", "INSERT INTO t (a) VALUES (1); COMMIT;",
     "UPDATE t SET a = b WHERE id = 1; COMMIT;", "UPDATE t SET a = 1; COMMIT;",
     "DELETE FROM t; COMMIT;", "DELETE FROM t WHERE t.id = 1; COMMIT;", "SELECT * FROM t; COMMIT;",
@@ -101,6 +117,7 @@ def edge_queries():
     for n in (31, 32, 33):
         yield "SELECT a FROM t WHERE " + "(" * n + "a = 1" + ")" * n
         yield "SELECT a FROM t WHERE " + "NOT " * n + "a = 1"
+        yield "SELECT a FROM t WHERE " + "NOT " * n + "a IS NOT NULL"
         mixed = "(NOT " * (n // 2) + "(" * (n % 2)
         yield "SELECT a FROM t WHERE " + mixed + "a = 1" + ")" * (n - n // 2)
         yield "SELECT a FROM t WHERE " + "(" * n

@@ -49,6 +49,8 @@ class Workload:
         kinds = [rng.choice([INT, TEXT, INT, TEXT, BOOL]) for _ in range(rng.randint(0, 5))]
         columns = [Column(f"c{i}", kind, self.nulls and rng.random() < 0.3)
                    for i, kind in enumerate(kinds)]
+        if self.nulls and rng.random() < 0.6:
+            columns.append(Column(f"c{len(kinds)}", rng.choice([INT, TEXT, BOOL]), True))
         key = Column("id" if rng.random() < 0.7 else "k", rng.choice([INT, INT, TEXT]))
         columns.insert(rng.randint(0, len(columns)) if rng.random() < 0.4 else 0, key)
         return Create(name, tuple(columns), key.name, self._sides(columns, key))
@@ -241,7 +243,7 @@ class Workload:
         if rng.random() < 0.45:
             keys = [r for r in refs if r[2]]
             name, column, is_key, _ = rng.choice(keys)
-        if self.nulls and rng.random() < 0.08:
+        if self.nulls and rng.random() < (0.25 if column.nullable else 0.05):
             return f"{name} IS {rng.choice(['', 'NOT '])}NULL"
         op = rng.choice(OPS)
         same = [r[0] for r in refs if r[1].kind == column.kind]

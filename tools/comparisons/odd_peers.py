@@ -54,10 +54,10 @@ class Folder:
 
 def script():
     """Rows enough for replies of some 240,000 bytes."""
-    batches = ["CREATE TABLE t (id BIGINT, name TEXT, PRIMARY KEY (id)); COMMIT;"]
+    batches = ["CREATE TABLE t (id BIGINT, name TEXT, note TEXT NULL, PRIMARY KEY (id)); COMMIT;"]
     for batch in range(BATCHES):
         rows = range(batch * ROWS_OF_A_BATCH, (batch + 1) * ROWS_OF_A_BATCH)
-        batches.append(" ".join([*(f"INSERT INTO t VALUES ({row}, '{'x' * TEXT}');" for row in rows), "COMMIT;"]))
+        batches.append(" ".join([*(f"INSERT INTO t VALUES ({row}, '{'x' * TEXT}', NULL);" for row in rows), "COMMIT;"]))
     return "\n".join(batches)
 
 

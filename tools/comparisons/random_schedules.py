@@ -16,7 +16,7 @@ from reference.store import Store
 from reference.world import World
 
 # two batches that leave the tables as they were, and need no proofs
-TURN = parse_script("CREATE TABLE turn (id BIGINT, PRIMARY KEY (id)); COMMIT; DROP TABLE turn; COMMIT;")
+TURN = parse_script("CREATE TABLE turn (id BIGINT, note TEXT NULL, PRIMARY KEY (id)); COMMIT; DROP TABLE turn; COMMIT;")
 NO_PROOFS = b"VOU1\0\0"
 # a key of height 5 ends behind so many versions, or its lower tree does
 BORDER = 32

@@ -6,6 +6,7 @@ from lines import forms
 from reference.binding import bind
 from reference.catalog import Catalog, CatalogTable, column_of
 from reference.changes import Op, do_op
+from reference.check import cell_fits
 from reference.faults import BadForm, FormFault, Missing
 from reference.formats import batch_bytes, read_batch, read_tree, tree_bytes
 from reference.generators.mutate import byte_sets, safe, tree_variants, truncations, truth_changes
@@ -17,7 +18,7 @@ from reference.scans import prune, scan
 from reference.sql import parse_batch, parse_query
 from reference.tables import Tables, apply
 from reference.tree import Entry, Leaf, Stub, digest_of, empty_tree, entries_of
-from reference.values import Cursor, KIND_NAMES, int_value, key_of, read_name, take_value, value_bytes, value_of_key
+from reference.values import NULL, Cursor, KIND_NAMES, int_value, key_of, read_name, take_value, value_bytes, value_of_key
 
 
 # -- byte strings: values, keys, columns, batches
@@ -126,7 +127,14 @@ def right_need(plan, octets):
     row = all_values(octets)
     if plan.query.join is None:
         return "no join"
-    return forms.need(plan.right_need(row[plan.bound.join_left])) if true_all(plan.left_cond, [row]) else "none"
+    wanted = wanted_by(plan, [row])
+    return forms.need(wanted[0]) if wanted else "none"
+
+
+def wanted_by(plan, rows):
+    """What those of some left rows need that meet the left condition and whose join value isn't NULL."""
+    values = (row[plan.bound.join_left] for row in rows if true_all(plan.left_cond, [row]))
+    return [plan.right_need(value) for value in values if value != NULL]
 
 
 def read_trees(octets):
@@ -142,8 +150,7 @@ def right_needs(plan, octets):
     if plan.query.join is None:
         return "[]"
     rows = [seen_row(plan.schema(0), plan.left_place, *seen)[1] for seen in scan(tree, plan.left_need)]
-    needs = [plan.right_need(row[plan.bound.join_left]) for row in rows if true_all(plan.left_cond, [row])]
-    return forms.needs(needs)
+    return forms.needs(wanted_by(plan, rows))
 
 
 def run_trees(plan, octets):
@@ -274,7 +281,7 @@ def is_typed(schema, entry):
         value_of_key(schema.key_kind(), entry.key)
     except FormFault:
         return False
-    return all(isinstance(cell, bytes) or cell[0] == column.kind for cell, column in zip(cells, schema.attributes()))
+    return all(cell_fits(column, cell) for cell, column in zip(cells, schema.attributes()))
 
 
 def query_pairs(seed, worlds, queries, odd):

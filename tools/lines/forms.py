@@ -31,6 +31,8 @@ def truth(is_true):
 
 def value(pair):
     tag, content = pair
+    if tag == 0:
+        return "null"
     if tag == 3:
         return truth(content)
     return form(KINDS[tag], str(content) if tag == 1 else octets(content))
@@ -64,6 +66,8 @@ def condition(cond):
         return form("not", condition(cond.part))
     if kind in ("All", "Any"):
         return form(kind.lower(), *(condition(part) for part in cond.parts))
+    if kind == "IsNull":
+        return form("is_not_null" if cond.negated else "is_null", reference(cond.left))
     right = value(cond.right) if isinstance(cond.right, tuple) else reference(cond.right)
     return form(cond.op, reference(cond.left), right)
 
@@ -109,7 +113,7 @@ def wrong(fault, *about):
 # -- commands
 
 def column(thing):
-    return form("column", octets(thing.name), KINDS[thing.kind])
+    return form("column", octets(thing.name), KINDS[thing.kind], *(["nullable"] if thing.nullable else []))
 
 
 def command(thing):
