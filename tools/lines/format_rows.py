@@ -11,7 +11,7 @@ from reference.owner import Owner
 from reference.sql import parse_query, parse_script
 from reference.store import Store
 from reference.tree import Stub, attr_digest, digest_of, row_digest
-from reference.values import bool_value, int_value, text_value, value_bytes
+from reference.values import NULL, bool_value, int_value, text_value, value_bytes
 
 
 # -- digests and signatures
@@ -280,6 +280,12 @@ def value_rows():
     for column in 2, 30:
         yield "cell", bytes([column]), b"\1" + spelled_values[2]
         yield "cell", bytes([column]), b"\0" + attr_digest(column, values[2])
+    # NULL in the first column and the last, whole and as a cell, beside a byte too many
+    for column in 0, 30:
+        yield "attribute", bytes([column]), value_bytes(NULL)
+        yield "cell", bytes([column]), b"\1" + value_bytes(NULL)
+        yield "cell", bytes([column]), b"\0" + attr_digest(column, NULL)
+    yield "value", value_bytes(NULL)
     # a row whole, with two cells hidden, all hidden, and closed; no cells, and as many as there can be
     yield ("whole", *spelled_values)
     yield "row", b"\0" + hidden[0], b"\1" + spelled_values[1], b"\0" + hidden[2]
@@ -292,6 +298,13 @@ def value_rows():
     for columns in b"\0\0", b"\1\1", b"\2\0", b"\1\2", b"\0\1\2", b"\x09\x09", b"":
         yield ("hide", columns, *spelled_values)
         yield ("hide_cells", columns, *spelled_values)
+    # the same with NULL among the values, shown and hidden
+    with_null = [spelled_values[0], value_bytes(NULL), value_bytes(NULL)]
+    yield ("whole", *with_null)
+    yield "row", b"\1" + with_null[0], b"\0" + attr_digest(1, NULL), b"\1" + with_null[2]
+    for columns in b"\1", b"\2\0", b"":
+        yield ("hide", columns, *with_null)
+        yield ("hide_cells", columns, *with_null)
 
 
 # -- formats
@@ -299,6 +312,7 @@ def value_rows():
 PRICES = b"\x06prices\x03\x03sku\x02\x05cents\x01\x04live\x03\x00\x00\x00\x00\x00\x00\x00\x00\x02" + bytes(range(32))
 REVOKED = b"\x07revoked\x02\x06reason\x02\x06serial\x01\x01\x00\x00\x00\x00\xff\xff\xff\xff" + b"\xff" * 32
 BY_TRUTH = b"\x01t\x01\x01a\x03\x00" + bytes(8) + bytes(range(32))
+NULLABLE = PRICES.replace(b"live\3", b"live\x83")
 
 
 def catalog_rows():
@@ -327,6 +341,13 @@ def catalog_rows():
     yield "catalog", b"\0\1" + PRICES.replace(bytes(7) + b"\2", b"\0\0\0\1" + bytes(4), 1)
     # no bytes
     yield "catalog", b""
+    # columns that may be NULL, one and all but the key; the key, and type bytes beside theirs
+    yield "catalog", b"\0\1" + NULLABLE
+    yield "catalog", b"\0\2" + PRICES.replace(b"live\3", b"live\x83").replace(b"cents\1", b"cents\x81") + REVOKED
+    yield "catalog", b"\0\1" + PRICES.replace(b"sku\2", b"sku\x82")
+    yield "catalog", b"\0\1" + BY_TRUTH.replace(b"a\3", b"a\x83", 1)
+    for byte in b"\x80", b"\x84", b"\xff":
+        yield "catalog", b"\0\1" + PRICES.replace(b"live\3", b"live" + byte)
 
 
 def record_rows():
@@ -334,11 +355,16 @@ def record_rows():
     record = b"VREC" + ID + bytes(7) + b"\x07" + both
     yield "record", record
     yield "record", record[:20] + b"\xff" * 8 + both
-    # a byte of the version too few, a byte too many, and another word
+    # a byte of the version too few, a byte too many, and other words
     yield "record", b"VREC" + ID + bytes(6) + b"\x07" + both
     yield "record", record + b"\0"
-    yield "record", b"VRC2" + record[4:]
+    for word in b"VRC3", b"VRC1", b"vrc2":
+        yield "record", word + record[4:]
     yield "record", b""
+    # of a catalog with a column that may be NULL, which the record alone doesn't tell; and too few and too many of its bytes
+    yield "record", b"VRC2" + record[4:]
+    yield "record", b"VRC2" + record[4:-1]
+    yield "record", b"VRC2" + record[4:] + b"\0"
 
 
 # a leaf of the rows (1, 'ann') and (3, 'bob'), a subtree that is its digest, and a leaf of a row with a hidden cell and
@@ -377,6 +403,17 @@ def reply_rows():
     yield "reply", b"VOR1" + VERSION_3 + b"\0\1\0\1"
     yield "reply", b"VOR1" + VERSION_3 + b"\0\1\0\1" + bytes(65_537) + b"\0\0\0\2\0\0\0"
     yield "reply", b"VOR1" + VERSION_3 + b"\0\0\0\4sig"
+    # of a catalog with a column that may be NULL, and of one without: with its own word in the record, and with others
+    nullable = ONE_TABLE.replace(b"name\2", b"name\x82")
+    key = ONE_TABLE.replace(b"id\1", b"id\x81")
+    with_null = ROWS.replace(b"\2\0\3ann", b"\0")
+    for catalog in ONE_TABLE, nullable, key:
+        for word in b"VREC", b"VRC2", b"VRC3":
+            yield "reply", b"VOR1" + word + VERSION_3[4:] + b"\0\0\0\3sig\0\0\0\x38" + catalog + b"\1" + with_null
+    yield "reply", b"VOR1VRC2" + empty[4:]
+    # NULL in a plain column is a form, and a byte behind it is not
+    yield "reply", front + b"\1" + with_null
+    yield "reply", front + b"\1" + with_null + b"\0"
 
 
 def proof_rows():
@@ -395,6 +432,8 @@ def proof_rows():
     yield "proofs", b"VOU1\3\xe8" + b"\1\0" * 1000
     yield "proofs", b"VOU1\3\xe9" + b"\1\0" * 1001
     yield "proofs", b"VOU1\3\xe9"
+    # with NULL shown
+    yield "proofs", b"VOU1\0\1" + ROWS.replace(b"\2\0\3ann", b"\0")
 
 
 # -- journals
@@ -431,7 +470,9 @@ def slot_rows():
         # another word
         BEFORE_FIRST + b"VOE2" + FIRST[4:] + b"\0",
     ]
-    for data in closed + damaged:
+    # records with the other words: a form by itself, whatever the catalog is, or none
+    others = [ONE.replace(b"VREC", word) + b"\0" for word in (b"VRC2", b"VRC3", b"VRC1")]
+    for data in closed + damaged + others:
         yield "slots", data
         yield "entries", data
 
@@ -627,6 +668,56 @@ class Owned:
         return journal_bytes(self.entries)
 
 
+NULLS = ("CREATE TABLE t (id BIGINT, name TEXT NULL, n BIGINT, PRIMARY KEY (id));", "INSERT INTO t VALUES (1, NULL, 7);",
+         "INSERT INTO t VALUES (2, 'bob', 8);", "UPDATE t SET name = NULL WHERE id = 2; UPDATE t SET name = 'ann' WHERE id = 1;",
+         "DELETE FROM t WHERE id = 2;", "CREATE TABLE u (id BIGINT, PRIMARY KEY (id));", "DROP TABLE t;")
+
+
+def null_rows():
+    """Journals and owners of a table with a column that may be NULL, up to its end."""
+    secret = lms.SecretKey.make(ID, OWNER_SEED, 4, 5)
+    public = secret.public().bytes()
+    yield "make", LEAF, b"\x04", ID, OWNER_SEED
+    yield seal_row(*NULLS)
+    owned = Owned(secret)
+    for text in NULLS:
+        yield owned.next_row(text, owned.proofs(text))
+        owned.follow(text)
+    journal = owned.journal()
+    yield "keep", journal
+    for version in range(len(NULLS) + 1):
+        yield "owned", public, bytes([version]), journal
+    yield "taken", public, journal
+    yield "replay", journal
+    # of a version with the table, and of the last one; by NULL and by none
+    for version in 1, 3, 7:
+        yield "answer_at", public, b"SELECT * FROM t WHERE name IS NULL", journal, bytes([version])
+    # each record with the other word: an entry by its form, and no entry of this owner
+    for entry in owned.entries[1], owned.entries[-1]:
+        whole = entry.rec.bytes()
+        other = (b"VREC" if whole[:4] == b"VRC2" else b"VRC2") + whole[4:]
+        changed = journal.replace(whole, other)
+        yield "slots", changed
+        yield "owned", public, b"\1", changed
+        yield "taken", public, changed
+        yield "owned_entries", public, changed
+        yield "replay", changed
+    # refused by the catalog: NULL for the key and in a plain column, behind what comes before, and a key that may be NULL
+    before = Owned(secret, *NULLS[:3])
+    for text in ("INSERT INTO t VALUES (NULL, 'z', 1);", "INSERT INTO t VALUES (NULL, 7, 1);", "INSERT INTO t VALUES (1, NULL, NULL);",
+                 "UPDATE t SET n = NULL WHERE id = 9;", "UPDATE t SET name = NULL WHERE id = NULL;", "DELETE FROM t WHERE id = NULL;",
+                 "UPDATE t SET name = NULL WHERE id = 9;", "CREATE TABLE u (id BIGINT NULL, PRIMARY KEY (id));"):
+        yield before.next_row(text, before.proofs(text))
+        yield "step", before.journal(), bytes_of(text), before.proofs(text)
+    yield seal_row(*NULLS[:2], "INSERT INTO t VALUES (3, NULL, NULL);")
+    # the proofs of an UPDATE with NULL shown in a cell, and hidden in its place
+    text = "UPDATE t SET n = 9 WHERE id = 1;"
+    proofs = before.proofs(text)
+    hidden = b"\0" + attr_digest(0, NULL)
+    yield before.next_row(text, proofs)
+    yield before.next_row(text, proofs.replace(hidden, b"\1\0"))
+
+
 def owner_rows():
     secret = lms.SecretKey.make(ID, OWNER_SEED, 4, 5)
     public = secret.public().bytes()
@@ -794,5 +885,6 @@ def rows():
     yield from journal_rows()
     yield from pair_journal_rows()
     yield from owner_rows()
+    yield from null_rows()
     yield from answer_rows()
     yield from image_rows()

@@ -7,7 +7,7 @@ from reference.changes import Op, do_op
 from reference.scans import Need, prune as pruned
 from reference.sql import parse_batch
 from reference.tree import Entry, Inner, Leaf, Stub, attr_digest, digest_of, empty_tree
-from reference.values import EVERYTHING, Interval, bool_value, int_value, key_of, text_value
+from reference.values import EVERYTHING, NULL, Interval, bool_value, int_value, key_of, text_value
 
 CREATE = "CREATE TABLE t (id BIGINT, name TEXT, PRIMARY KEY (id))"
 ANN, BOB = "INSERT INTO t VALUES (1, 'ann')", "INSERT INTO t VALUES (3, 'bob')"
@@ -22,7 +22,7 @@ def rows():
                   three_levels, runs_on_parts, changes_beside_a_stub, odd_leaves, odd_inner_nodes,
                   moves, proofs, growing_proofs, judged_parts, judged_proofs, needs_of_a_leaf,
                   needs_of_the_empty_tree, needs_of_two_leaves, agreeing_rows, agreeing_trees, twin_rows, twin_trees,
-                  twins_of_three_levels, twin_proofs):
+                  twins_of_three_levels, twin_proofs, null_cells, null_commands):
         yield from cases()
 
 
@@ -561,6 +561,58 @@ def twin_proofs():
     for some in needs[1:]:
         yield from (twins(needs[0], proof, pruned(tree, some)), twins(some, pruned(tree, some), pruned(tree, some)))
     yield from (twins(needs[0], proof, EMPTY), twins(needs[0], proof, b""), twins(needs[0], proof, part_bytes(proof) + b"\0"))
+
+
+# -- NULL
+
+def null_cells():
+    # NULL shown, hidden, beside values of each kind, and in a row's digest
+    whole = Leaf([Entry(key(1), (NULL, text_value("a"))), Entry(key(2), (int_value(0), NULL)), Entry(key(3), (NULL, NULL))])
+    first = whole.entries[0]
+    parts = [whole, Leaf([Entry(key(1), (attr_digest(0, NULL), first.part[1])), *whole.entries[1:]]),
+             Leaf([Entry(key(1), first.row_digest()), *whole.entries[1:]])]
+    for part in parts:
+        yield from (read(part), digest(part), preimage(part))
+    # a byte left over behind it, and none where a value is due
+    yield from (read(b"\1\1\0\1k\1\1\1\0\0"), read(b"\1\1\0\1k\1\2\1\0\1"))
+    # a value becomes NULL, NULL a value, and NULL stays; a row with NULL comes and goes
+    null, seven = Op("replace", key(2), sets=[(0, NULL)]), Op("replace", key(1), sets=[(0, int_value(7))])
+    for op in null, seven, Op("replace", key(3), sets=[(1, NULL), (0, NULL)]), Op("insert", key(4), cells=(NULL, NULL)), drop(3):
+        yield from (work(op, whole), judge(op, whole), judge(op, update_proof(whole, op)), after([op, op], whole))
+    # what needs see, by one column, by both and by none
+    for need in (between(1, 3, 0), between(1, 3, 1), between(2, 3, 0, 1), between(1, 3)):
+        yield from (scan(need, whole), canonical([need], whole), scan(need, parts[1]), canonical([need], pruned(whole, [need])))
+    # beside each other, and beside zero, FALSE, no text and a digest
+    for first, second in product(parts, parts):
+        yield from both(first, second)
+    for cell in int_value(0), bool_value(False), text_value(""), bytes(32), attr_digest(0, NULL), attr_digest(1, NULL):
+        yield from both(Leaf([Entry(b"k", (NULL,))]), Leaf([Entry(b"k", (cell,))]))
+
+
+def null_commands():
+    # a table with a column that may be NULL, and a plain one: each command by itself, and what refuses it
+    tables = Twin()
+    yield from (tables.clear(), tables.apply(sql("CREATE TABLE t (id BIGINT, name TEXT NULL, n BIGINT, PRIMARY KEY (id))",
+                                                 "INSERT INTO t VALUES (1, NULL, 5)", "INSERT INTO t VALUES (3, 'bob', 6)")))
+    yield from (root(tables.tree), tables.rows(), tables.catalog())
+    refused = sql(
+        "INSERT INTO t VALUES (NULL, 'z', 1)", "INSERT INTO t VALUES (NULL, 7, 1)", "INSERT INTO t VALUES (2, NULL, NULL)",
+        "INSERT INTO t VALUES (NULL, NULL)", "INSERT INTO t VALUES (3, NULL, NULL)", "UPDATE t SET n = NULL WHERE id = 1",
+        "UPDATE t SET n = NULL WHERE id = 2", "UPDATE t SET name = 7 WHERE id = NULL", "UPDATE t SET name = 'z' WHERE id = NULL",
+        "UPDATE t SET name = NULL WHERE name = NULL", "UPDATE t SET name = NULL, name = NULL WHERE id = 1",
+        "UPDATE t SET id = NULL WHERE id = 1", "UPDATE t SET x = NULL WHERE id = 1", "DELETE FROM t WHERE id = NULL",
+        "DELETE FROM t WHERE name = NULL", "DELETE FROM u WHERE id = NULL",
+        "CREATE TABLE u (id BIGINT NULL, PRIMARY KEY (id))", "CREATE TABLE t (id BIGINT NULL, PRIMARY KEY (id))",
+        "CREATE TABLE u (id BIGINT, a TEXT NULL, PRIMARY KEY (a))", "CREATE TABLE u (a BIGINT NULL, a TEXT, PRIMARY KEY (id))")
+    yield from (tables.refusal(refused), tables.step(refused))
+    # by rows alone, behind what the catalog says
+    taken = sql("INSERT INTO t VALUES (1, NULL, 7)", "UPDATE t SET name = NULL WHERE id = 9", "UPDATE t SET name = NULL, n = 7 WHERE id = 3",
+                "UPDATE t SET name = 'ann' WHERE id = 1", "INSERT INTO t VALUES (2, NULL, 7)", "DELETE FROM t WHERE id = 3",
+                "CREATE TABLE u (id BIGINT, a BOOLEAN NULL, PRIMARY KEY (id))")
+    yield from (tables.proof([command]) for command in taken[:6])
+    yield from (tables.refusal(taken), tables.step(taken), tables.rows(), tables.catalog(), root(tables.tree))
+    yield agree(tables.tree, Leaf(Entry(e.key, (attr_digest(0, e.part[0]), e.part[1])) for e in tables.tree.entries))
+    yield from asked(tables.tree, [between(1, 2, 0)])
 
 
 # -- trees that count their entries
