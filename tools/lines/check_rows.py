@@ -3,13 +3,13 @@ from lines.check_answers import NO_LINE, Reader
 from reference.binding import bind
 from reference.catalog import Catalog, CatalogTable, Record
 from reference.formats import REPLY_LIMIT, read_reply, write_reply
-from reference.generators.mutate import at_path, put_at, resign, rooted, shallow, spots
+from reference.generators.mutate import at_path, marked_catalogs, put_at, resign, rooted, shallow, spots
 from reference.generators.worlds import SECRET, history
 from reference.lms import SecretKey
 from reference.plan import Plan
 from reference.sql import parse_batch, parse_query
 from reference.tree import Entry, Inner, Leaf, Stub, cell_digest, digest_of, row_digest
-from reference.values import bool_value, int_value, key_of, text_value
+from reference.values import NULL, bool_value, int_value, key_of, text_value
 
 EACH = "1", "7", "4096"
 RANGE = "SELECT name FROM t WHERE id > 9 AND id <= 14"
@@ -20,7 +20,8 @@ def rows():
     """All rows, those of each kind of case behind one another."""
     for cases in (no_lines, honest_replies, honest_joins, queries_that_do_not_bind, other_keys, longest_values, wide_rows,
                   records_and_signatures, catalogs, counts_of_trees, roots, shapes, missing_parts, surplus_parts, levels,
-                  fronts, longer_replies, no_replies, first_faults, hostile_joins, hostile_replies_of_no_trees):
+                  fronts, longer_replies, no_replies, first_faults, hostile_joins, hostile_replies_of_no_trees, null_replies,
+                  words_and_marks, hostile_nulls):
         yield from cases()
 
 
@@ -93,7 +94,11 @@ class Honest:
 
     def node(self, path):
         """The node of the whole tree, with its children and rows as digests."""
-        return shallow(at_path(self.store.kept[-1].trees.tree(self.places[0]), path))
+        return self.node_of(0, path)
+
+    def node_of(self, number, path):
+        """The same of the tree of this number."""
+        return shallow(at_path(self.store.kept[-1].trees.tree(self.places[number]), path))
 
     def paths(self, kind):
         return [path for path, node in spots(self.tree) if isinstance(node, kind)]
@@ -401,6 +406,70 @@ def first_faults():
         honest.rewritten(trees=[missing]), honest.rewritten(trees=[surplus]))
     # an older version, with another catalog
     yield from checked(honest, honest.rewritten(catalog=other), honest.rewritten(signature=bad), least=4)
+
+
+# -- NULL
+
+NULL_STORE = store_of(
+    ["CREATE TABLE t (id BIGINT, name TEXT NULL, boss BIGINT NULL, sold BOOLEAN, PRIMARY KEY (id))",
+     "CREATE TABLE u (k TEXT, a BOOLEAN NULL, PRIMARY KEY (k))"],
+    [f"INSERT INTO t VALUES ({number}, {name}, {boss}, {'FALSE' if number % 3 else 'TRUE'})"
+     for number, name, boss in ((each, "NULL" if each % 4 == 1 else f"'{'xyz'[each % 3]}'", each - 7 if each % 3 else "NULL")
+                                for each in range(60))],
+    ["INSERT INTO u VALUES ('x', NULL)", "INSERT INTO u VALUES ('y', TRUE)"])
+NULL_RANGE = "SELECT name FROM t WHERE id >= 9 AND id <= 12"
+
+
+def null_replies():
+    # conditions that a NULL doesn't meet, such as it meets, a literal, and joins by columns that have NULL
+    texts = [NULL_RANGE, "SELECT id FROM t WHERE name = 'x' AND id < 12", "SELECT id FROM t WHERE NOT name = 'x' AND id < 12",
+             "SELECT id FROM t WHERE name <> 'x' AND NOT boss > 3 AND id < 12", "SELECT * FROM t WHERE name IS NULL AND id < 12",
+             "SELECT id FROM t WHERE (name IS NOT NULL OR boss IS NULL) AND id < 9", "SELECT id FROM t WHERE id < NULL",
+             "SELECT id FROM t WHERE id < 9 AND (name = NULL OR id = 3)", "SELECT id FROM t WHERE name = name AND id > 50",
+             "SELECT a.id, b.name FROM t AS a JOIN t AS b ON a.boss = b.id WHERE a.id < 14 AND NOT b.name = 'y'",
+             "SELECT t.id, u.a FROM t JOIN u ON t.name = u.k WHERE t.id < 14", "SELECT * FROM u",
+             "SELECT name FROM t WHERE sold = NULL OR name = 7"]
+    for text in texts:
+        reader, lines = Honest(text, NULL_STORE).begun()
+        yield from lines
+        yield from reader.checks(*EACH, "3+1+500")
+        yield reader.held("61+500")
+
+
+def words_and_marks():
+    honest = Honest(NULL_RANGE, NULL_STORE)
+    marked = list(marked_catalogs(honest.reply.catalog))
+    # the record's other words, signed and not; columns that are marked otherwise, the keys among them, likewise
+    yield from checked(honest, *(data for word in (b"VREC", b"VRC3", b"VRC1") for data in (
+        honest.with_record(magic=word), resign(SECRET, honest.reply, honest.reply.catalog, honest.trees, magic=word))))
+    yield from checked(honest, *(data for _, catalog in marked for data in (
+        honest.rewritten(catalog=catalog), resign(SECRET, honest.reply, catalog, honest.trees))))
+    # of tables without such a column
+    honest = Honest(RANGE)
+    yield from checked(honest, honest.with_record(magic=b"VRC2"),
+                       resign(SECRET, honest.reply, honest.reply.catalog, honest.trees, magic=b"VRC2"),
+                       *(resign(SECRET, honest.reply, catalog, honest.trees)
+                         for _, catalog in marked_catalogs(honest.reply.catalog)))
+
+
+def hostile_nulls():
+    # NULL in the place of a value and a value in its place: as they are, and under a valid signature
+    honest = Honest("SELECT name, boss, sold FROM t WHERE id >= 9 AND id <= 12", NULL_STORE)
+    trees = [honest.with_part(number, shown(cell, value)) for number, cell, value in (
+        (10, 0, NULL), (9, 0, text_value("x")), (9, 1, int_value(0)), (10, 1, NULL), (9, 2, NULL), (9, 0, int_value(0)))]
+    trees += [honest.with_part(9, hidden(0)), honest.with_part(10, lambda part: part[:1]),
+              honest.with_part(9, lambda part: part + (NULL,))]
+    yield from checked(honest, *(data for tree in trees for data in (honest.rewritten(trees=[tree]), honest.signed(tree))))
+    # in a table all of whose columns are plain
+    honest = Honest("SELECT name, sold FROM t WHERE id > 9 AND id <= 14")
+    yield from checked(honest, *(honest.signed(honest.with_part(12, shown(cell, NULL))) for cell in (0, 1)))
+    # the right row of a left row without a join value: its leaf open, and the tree of none
+    honest = Honest("SELECT a.id, b.name FROM t AS a JOIN t AS b ON a.boss = b.id WHERE a.id = 9", NULL_STORE)
+    yield from checked(honest, *(honest.rewritten(trees=[honest.opened(path)]) for path in honest.paths(Stub)))
+    honest = Honest("SELECT t.id, u.a FROM t JOIN u ON t.name = u.k WHERE t.id = 9", NULL_STORE)
+    left, right = honest.trees
+    yield from checked(honest, honest.rewritten(trees=[left]), honest.rewritten(trees=[left, right, right]),
+                       honest.rewritten(trees=[left, honest.node_of(1, ())]))
 
 
 # -- other queries

@@ -19,8 +19,8 @@ def rows():
 
 # -- what the cases are of
 
-def record(version, mark):
-    return Record(ID, version, bytes([mark]) * 32)
+def record(version, mark, magic=b"VREC"):
+    return Record(ID, version, bytes([mark]) * 32, magic)
 
 
 def own(version):
@@ -73,7 +73,8 @@ def no_lines():
     yield from (explained([], rec, other) for other in (signature[:-1], signature + b"\0", b""))
     # records that are none
     data = own(2).bytes()
-    yield from (("explain", other, rec.bytes(), signature) for other in (data[:-1], data + b"\0", data + b"VREC", b"x" + data[1:]))
+    yield from (("explain", other, rec.bytes(), signature) for other in (
+        data[:-1], data + b"\0", data + b"VREC", b"x" + data[1:], b"VRC3" + data[4:]))
     yield from (("explain", b"", other, signature) for other in (b"", rec.bytes()[:-1], rec.bytes() + b"\0"))
     # under another key
     yield made(SecretKey.make(ID, bytes(32), 3, H5))
@@ -94,6 +95,9 @@ def one_level(ots):
     last = record(31, 0x99)
     yield from explained_by(last, signed_by(tree, 31, last.bytes(), RANDOMIZER), owns(*range(31)), owns(*range(32)))
     yield from explained_by(own(0), signed_by(tree, 0, own(0).bytes()), [], owns(1, 2))
+    # records of catalogs with a column that may be NULL: forged, signed by the owner, and both of the same catalog digest
+    nullable = record(3, 0x99, b"VRC2")
+    yield from explained_by(nullable, signed_by(tree, 3, nullable.bytes()), [], owns(3), [record(3, 3, b"VRC2")], [rec])
 
 
 def two_levels(ots):

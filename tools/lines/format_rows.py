@@ -577,6 +577,7 @@ def pair_journal_rows():
 
 def kept_rows(public, journal):
     """Replies by a journal of 71 versions: those from 7 on are kept."""
+    yield "keep", journal
     for version in 0, 6, 7, 8, 69, 70, 71, 256:
         yield "answer_at", public, b"SELECT * FROM t", journal, version.to_bytes(2, "big")
     yield "answer", public, b"SELECT * FROM t", journal

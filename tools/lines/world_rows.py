@@ -19,7 +19,7 @@ SHOWN = "clients", "entries", "journal", "released", "accepted"
 def rows():
     """All rows, those of each kind of case behind one another."""
     for cases in (no_lines, two_clients, refused_commits, stops_in_a_commit, stops_behind_each_other, images_that_never_were,
-                  other_replies, no_clients, spent_key, two_levels):
+                  other_replies, no_clients, nulls, spent_key, two_levels):
         yield from cases()
 
 
@@ -209,6 +209,30 @@ def no_clients():
     yield from story.begun(0)
     yield from story.commits(1)
     yield receive(0, story.reply(1))
+    yield from shown_twice()
+
+
+def nulls():
+    """A table with a column that may be NULL comes, changes and goes: the record's first four bytes go with it."""
+    story = Story("CREATE TABLE t (id BIGINT, name TEXT NULL, PRIMARY KEY (id)); COMMIT; INSERT INTO t VALUES (1, NULL); "
+                  "INSERT INTO t VALUES (2, 'bob'); COMMIT; UPDATE t SET name = NULL WHERE id = 2; COMMIT; DROP TABLE t; COMMIT;")
+    query = "SELECT id FROM t WHERE name IS NULL OR NOT name = 'bob'"
+    yield from story.begun(2)
+    yield from story.commits(1, 2)
+    right = story.entries[3].proofs
+    for text in ("INSERT INTO t VALUES (NULL, 'z')", "INSERT INTO t VALUES (NULL, 7)", "UPDATE t SET name = 'z' WHERE id = NULL",
+                 "DELETE FROM t WHERE id = NULL", "CREATE TABLE u (id BIGINT NULL, PRIMARY KEY (id))"):
+        yield commit(sql(text), NO_PROOFS if "CREATE" in text else right)
+    data = story.reply(2, query)
+    yield from (receive(0, data, query), receive(0, story.reply(2)))
+    yield ("keep", data)
+    yield from (receive(1, data[:4] + word + data[8:], query) for word in (b"VREC", b"VRC3"))
+    yield from story.commits(3)
+    yield crash(story.slot(3) + 1, b"\0")
+    yield from story.commits(3)
+    yield receive(1, story.reply(3, query), query)
+    yield from story.commits(4)
+    yield from (receive(0, story.reply(3, query), query), receive(1, story.reply(4, query), query))
     yield from shown_twice()
 
 
