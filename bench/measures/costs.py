@@ -105,6 +105,11 @@ def profile(words, given=b"", ends=(0,)):
         return open(counts.name, encoding="utf-8", errors="replace").read()
 
 
+def output(words):
+    """What a run writes."""
+    return subprocess.run(words, stdout=subprocess.PIPE, check=True).stdout
+
+
 def all_of(profile):
     """All instructions that callgrind counted."""
     return int(re.search(r"^(?:summary|totals): (\d+)", profile, re.M).group(1))

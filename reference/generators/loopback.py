@@ -133,7 +133,7 @@ class Loopback:
 
     def __init__(self, program, folder):
         self.program, self.folder = program, folder
-        work = Workload(77, batches=5, commands=10, queries=6)
+        work = Workload(77, batches=5, commands=10, queries=6, nulls=True)
         self.world, self.queries = SealedScript(work.script), work.queries
 
     def comparisons(self):

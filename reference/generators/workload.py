@@ -29,11 +29,15 @@ def _is_text(batch):
 
 
 class Workload:
-    """Random tables, as a script's batches make them, and queries on them."""
+    """Random tables, as a script's batches make them, and queries on them.
+
+    Where `nulls` isn't said, three of four have columns that may be NULL.
+    """
 
     def __init__(self, seed, tables=3, batches=8, commands=12, queries=40, sides=True,
-                 nulls=True, long_texts=True, spread=60):
+                 nulls=None, long_texts=True, spread=60):
         self.rng = random.Random(seed)
+        nulls = self.rng.random() < 0.75 if nulls is None else nulls
         self.sides, self.nulls = sides and has("indexes"), nulls and has("nulls")
         self.long_texts, self.spread = long_texts, spread
         self.tables = Tables()

@@ -39,7 +39,7 @@ class Rows(unittest.TestCase):
         """Conditions of three values and joins, on tables that have NULL or by a text that has."""
         compared = joins = 0
         for seed in range(WORLDS):
-            work = ManyNulls(seed, queries=QUERIES, batches=5, spread=9, sides=False,
+            work = ManyNulls(seed, queries=QUERIES, batches=5, spread=9, sides=False, nulls=True,
                              long_texts=False)
             sqlite = SqliteTables(work.script, work.tables)
             for text in filter(lambda text, work=work: speaks_of_null(work.tables, text),
