@@ -43,7 +43,8 @@ class Rivalry:
         """Starts two at once, the second a random moment later, and looks at what comes of it."""
         self.tries += 1
         before = len(entries_of(read(JOURNAL)))
-        batches = [f"CREATE TABLE {name}{self.tries} (id BIGINT, PRIMARY KEY (id)); COMMIT;" for name in "ab"]
+        batches = [f"CREATE TABLE {name}{self.tries} (id BIGINT, note TEXT{mark}, PRIMARY KEY (id)); COMMIT;"
+                   for name, mark in (("a", ""), ("b", " NULL"))]
         first = self.start(batches[0])
         time.sleep(self.chosen.uniform(0, self.length * 1.2))
         second = self.start(batches[1])
