@@ -6,8 +6,7 @@ use Rattle.vo_spec.specs.declared.tables.Column.{Column}
 use Rattle.vo_spec.specs.declared.records.CatalogTable.{CatalogTable}
 use Rattle.vo_spec.specs.declared.records.Catalog.{Catalog}
 use Rattle.vo_spec.specs.Bytes.{u16_bytes, u64_bytes, short_string}
-use Rattle.vo_spec.specs.Values.{type_byte}
-use Rattle.vo_spec.specs.Batches.{FitsColumn, list_bytes, column_bytes}
+use Rattle.vo_spec.specs.Batches.{FitsColumn, list_bytes, column_bytes, column_type}
 use Rattle.vo_spec.specs.Records.{catalog_table_bytes, catalog_bytes, FitsCatalogTable, FitsCatalog}
 use Rattle.row_bytes.proofs.ValueLaws.{u16_length, u64_length}
 use Rattle.batch_format.proofs.Fitting.{name_is_short}
@@ -25,7 +24,7 @@ pieces_short Fits encode most each (x ∷ xs) fits =
 column_short : (c : Column) → FitsColumn c → length (column_bytes c) ≤ 65
 column_short c fits =
     let name : length c.name ≤ 63 = name_is_short c.name fits in
-    omega (arith, name, length-append (short_string c.name) (type_byte c.kind ∷ []))
+    omega (arith, name, length-append (short_string c.name) (column_type c ∷ []))
 
 columns_short : (cs : List Column) → length cs ≤ 32 → AllByRecursion FitsColumn cs → length (list_bytes column_bytes cs) ≤ 2081
 columns_short cs few fits =

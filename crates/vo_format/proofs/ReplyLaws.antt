@@ -3,11 +3,12 @@ use Rattle.std.proofs.Common.{◌≡◌, ℕ, ◌<◌, ◌≤◌, leb, List, [],
 use Rattle.std.specs.Prelude.{IfOk}
 use Rattle.std.specs.List.{AllByRecursion, flat_map}
 use Rattle.std.proofs.lemmas.Bool.{leb-true, le-leb}
+use Rattle.vo_spec.specs.declared.records.Magic.{Magic}
 use Rattle.vo_spec.specs.declared.records.Record.{Record}
 use Rattle.vo_spec.specs.declared.records.Catalog.{Catalog}
 use Rattle.vo_spec.specs.Bytes.{IsBytes, block}
 use Rattle.vo_spec.specs.Journals.{max_signature}
-use Rattle.vo_spec.specs.Records.{record_bytes, catalog_bytes, FitsCatalog, IsCatalog}
+use Rattle.vo_spec.specs.Records.{record_bytes, catalog_bytes, magic_of, FitsCatalog}
 use Rattle.vo_spec.specs.Trees.{RowTree}
 use Rattle.vo_spec.specs.Fits.{FitsTree, max_levels}
 use Rattle.vo_spec.specs.TreeBytes.{tree_bytes}
@@ -20,9 +21,9 @@ use Rattle.row_bytes.proofs.Readers.{IsBytes-rest}
 use Rattle.batch_format.specs.BatchReading.{Reader, one, two}
 use Rattle.batch_format.proofs.ReaderLaws.{Took, IsReader, some_is, bound, tested, took_then, no_some, next_found, next_again, times_found, times_again}
 use Rattle.batch_format.proofs.BatchLaws.{one_found}
-use Rattle.version_record.specs.Reading.{record_at, catalog_at}
+use Rattle.version_record.specs.Reading.{record_at, catalog_of_record}
 use Rattle.version_record.proofs.RecordLaws.{words_read, records_read, whole_is}
-use Rattle.version_record.proofs.CatalogLaws.{is_catalog, is_read}
+use Rattle.version_record.proofs.CatalogLaws.{of_record_found, of_record_again}
 use Rattle.vo_format.specs.declared.reply.Reply.{Reply}
 use Rattle.vo_format.specs.View.{reply_of}
 use Rattle.batch_format.specs.TreeReading.{tree_at}
@@ -56,29 +57,28 @@ signatures_law = record { found = signature_found; again = signature_again }
 abbrev catalog_block : Catalog → List ℕ
 catalog_block c = block (catalog_bytes c)
 
-read_whole : (o : Option Catalog) (bytes : List ℕ) (c : Catalog) → o ≡ whole (catalog_at bytes) → IsCatalog bytes c → o ≡ Some c
-read_whole None bytes c e is = absurd (no_some c (sym (is_read bytes (Err BadForm) c (sym e) is)))
-read_whole (Some d) bytes c e is = sym (is_read bytes (Ok d) c (sym e) is)
+abbrev IsCatalogOf : Magic → Catalog → Type 0
+IsCatalogOf magic c = FitsCatalog c × (magic ≡ magic_of c)
 
-whole_catalog : (c : Catalog) → FitsCatalog c → whole (catalog_at (catalog_bytes c)) ≡ Some c
-whole_catalog c fits = read_whole _ (catalog_bytes c) c refl (record { fits = fits; encoded = refl })
-
-catalog_found : (bytes : List ℕ) (c : Catalog) (rest : List ℕ) → IsBytes bytes → catalog_block_at bytes ≡ Some (c, rest) → Took bytes (catalog_block c) rest × FitsCatalog c
+catalog_found : (magic : Magic) (bytes : List ℕ) (c : Catalog) (rest : List ℕ) → IsBytes bytes → catalog_block_at magic bytes ≡ Some (c, rest) → Took bytes (catalog_block c) rest × IsCatalogOf magic c
 unfolding catalog_block_at
-catalog_found bytes c rest fits e =
-    let a = bound (block_at bytes) (λ block. whole (catalog_at block.0) >>= λ catalog. Some (catalog, block.1)) (c, rest) e in
-    let b = bound (whole (catalog_at a.0.0)) (λ catalog. Some (catalog, a.0.1)) (c, rest) a.2 in
+catalog_found magic bytes c rest fits e =
+    let a = bound (block_at bytes) (λ block. catalog_of_record magic block.0 >>= λ catalog. Some (catalog, block.1)) (c, rest) e in
+    let b = bound (catalog_of_record magic a.0.0) (λ catalog. Some (catalog, a.0.1)) (c, rest) a.2 in
     let t = block_found bytes a.0.0 a.0.1 fits a.1 in
-    let is : IsCatalog a.0.0 b.0 = is_catalog a.0.0 (Ok b.0) t.1 b.1 in
-    subst (λ (p : Catalog × List ℕ). Took bytes (catalog_block p.0) p.1 × FitsCatalog p.0) (some_is (b.0, a.0.1) (c, rest) b.2)
-    (subst (λ (w : List ℕ). Took bytes (block w) a.0.1) is.encoded t.0, is.fits)
+    let is = of_record_found magic a.0.0 b.0 t.1 b.1 in
+    subst (λ (p : Catalog × List ℕ). Took bytes (catalog_block p.0) p.1 × IsCatalogOf magic p.0) (some_is (b.0, a.0.1) (c, rest) b.2)
+    (subst (λ (w : List ℕ). Took bytes (block w) a.0.1) is.0.encoded t.0, (is.0.fits, is.1))
 
-catalog_again : (c : Catalog) (rest : List ℕ) → FitsCatalog c → catalog_block_at (catalog_block c ++ rest) ≡ Some (c, rest)
+catalog_with : (c : Catalog) (rest : List ℕ) → FitsCatalog c → catalog_block_at (magic_of c) (catalog_block c ++ rest) ≡ Some (c, rest)
 unfolding catalog_block_at
-catalog_again c rest fits = rw (block_again (catalog_bytes c) rest (catalog_is_short c fits), whole_catalog c fits) refl
+catalog_with c rest fits = rw (block_again (catalog_bytes c) rest (catalog_is_short c fits), of_record_again c fits) refl
 
-catalogs_law : IsReader catalog_block_at catalog_block FitsCatalog
-catalogs_law = record { found = catalog_found; again = catalog_again }
+catalog_again : (magic : Magic) (c : Catalog) (rest : List ℕ) → IsCatalogOf magic c → catalog_block_at magic (catalog_block c ++ rest) ≡ Some (c, rest)
+catalog_again magic c rest is = ap (λ (m : Magic). catalog_block_at m (catalog_block c ++ rest)) is.1 ∙ catalog_with c rest is.0
+
+catalogs_law : (magic : Magic) → IsReader (catalog_block_at magic) catalog_block (IsCatalogOf magic)
+catalogs_law magic = record { found = catalog_found magic; again = catalog_again magic }
 
 -- Trees.
 
@@ -108,7 +108,7 @@ counted_law = record { found = trees_found; again = trees_again }
 -- Replies.
 
 abbrev behind_signature : Record → List ℕ → Reader Plain
-behind_signature rec signature = two (plain_reply rec signature) catalog_block_at counted_trees_at
+behind_signature rec signature = two (plain_reply rec signature) (catalog_block_at rec.magic) counted_trees_at
 
 abbrev behind_record : Record → Reader Plain
 behind_record rec bytes = signature_at bytes >>= λ signature. behind_signature rec signature.0 signature.1
@@ -124,7 +124,7 @@ reply_found bytes r rest fits e =
     let m = next_found (words_read word) behind_word bytes y fits e in
     let a = next_found records_read behind_record m.1 y m.2.behind m.4 in
     let b = next_found signatures_law (behind_signature a.0) a.1 y a.2.behind a.4 in
-    let c = next_found catalogs_law (λ c. one (plain_reply a.0 b.0 c) counted_trees_at) b.1 y b.2.behind b.4 in
+    let c = next_found (catalogs_law a.0.magic) (λ c. one (plain_reply a.0 b.0 c) counted_trees_at) b.1 y b.2.behind b.4 in
     let d = one_found counted_law (plain_reply a.0 b.0 c.0) c.1 y c.2.behind c.4 in
     let first : Took bytes word m.1 = subst (λ (w : List ℕ). Took bytes w m.1) m.3 m.2 in
     let ma = took_then bytes word m.1 (record_bytes a.0) a.1 first a.2 in
@@ -132,7 +132,7 @@ reply_found bytes r rest fits e =
     let mabc = took_then bytes (word ++ record_bytes a.0 ++ block b.0) b.1 (catalog_block c.0) c.1 mab c.2 in
     let all = took_then bytes (word ++ record_bytes a.0 ++ block b.0 ++ catalog_block c.0) c.1 (counted_trees d.0) d.1 mabc d.2 in
     subst (λ (p : Plain × List ℕ). Took bytes (reply_bytes p.0) p.1 × FitsReply p.0) d.4
-    (all, record { rec = a.3; signature = b.3; catalog = c.3; count = d.3.0; trees = d.3.1 })
+    (all, record { rec = a.3; signature = b.3; catalog = c.3.0; count = d.3.0; trees = d.3.1; magic = c.3.1 })
 
 pub reply_again : (r : Plain) (rest : List ℕ) → FitsReply r → reply_at (reply_bytes r ++ rest) ≡ Some (r, rest)
 unfolding reply_at reply_bytes
@@ -146,7 +146,7 @@ reply_again r rest fits =
     ∙ next_again (words_read word) behind_word word (record_bytes r.rec ++ (block r.signature ++ (catalog_block r.catalog ++ ends))) refl
     ∙ next_again records_read behind_record r.rec (block r.signature ++ (catalog_block r.catalog ++ ends)) fits.rec
     ∙ next_again signatures_law (behind_signature r.rec) r.signature (catalog_block r.catalog ++ ends) fits.signature
-    ∙ next_again catalogs_law (λ c. one (plain_reply r.rec r.signature c) counted_trees_at) r.catalog ends fits.catalog
+    ∙ next_again (catalogs_law r.rec.magic) (λ c. one (plain_reply r.rec r.signature c) counted_trees_at) r.catalog ends (fits.catalog, fits.magic)
     ∙ next_again counted_law (λ ts rest. let made : Option (Plain × List ℕ) = Some (plain_reply r.rec r.signature r.catalog ts, rest) in made) r.trees rest (fits.count, fits.trees)
 
 -- What the call ensures.

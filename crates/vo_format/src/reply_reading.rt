@@ -12,8 +12,8 @@ use crate::tree_reading::take_trees;
 use mb_tree::PartTree;
 use row_bytes::{Cursor, ReadFault};
 use std::alloc::Global;
-use version_record::{catalog_in, take_record};
-use vo_spec::{Catalog, MAX_SIGNATURE};
+use version_record::{catalog_of_record, take_record};
+use vo_spec::{Catalog, MAX_SIGNATURE, Magic};
 
 #[tactic(auto, unfolding(crate::specs::Reading::signature_at))]
 fn take_signature<'b>(cursor: &mut Cursor<'b>) -> Option<&'b [u8]>
@@ -26,13 +26,17 @@ fn take_signature<'b>(cursor: &mut Cursor<'b>) -> Option<&'b [u8]>
     Some(signature)
 }
 
-/// The catalog behind its length. Nothing is left over inside.
+/// The catalog behind its length, if its record begins with this. Nothing is left over inside.
 #[tactic(auto, unfolding(crate::specs::Reading::catalog_block_at))]
-fn take_catalog_block(alloc: Global, cursor: &mut Cursor<'_>) -> Result<Catalog, ReadFault>
-    ensures { TakesOr (λ catalog. catalog) result cursor.new (catalog_block_at cursor.old) }
+fn take_catalog_block(
+    alloc: Global,
+    magic: Magic,
+    cursor: &mut Cursor<'_>,
+) -> Result<Catalog, ReadFault>
+    ensures { TakesOr (λ catalog. catalog) result cursor.new (catalog_block_at magic cursor.old) }
 {
     match cursor.take_block() {
-        Some(block) => catalog_in(alloc, block),
+        Some(block) => catalog_of_record(alloc, magic, block),
         None => Err(ReadFault::BadForm),
     }
 }
@@ -63,7 +67,7 @@ fn take_reply<'b>(alloc: Global, cursor: &mut Cursor<'b>) -> Result<Reply<'b>, R
     let Some(signature) = take_signature(cursor) else {
         return Err(ReadFault::BadForm);
     };
-    let catalog = take_catalog_block(alloc, cursor)?;
+    let catalog = take_catalog_block(alloc, rec.magic, cursor)?;
     let trees = take_counted_trees(alloc, cursor)?;
     Ok(Reply {
         rec,
