@@ -12,7 +12,8 @@ use Rattle.vo_spec.specs.Secret.{Secret, public_of_secret}
 use Rattle.vo_spec.specs.Journals.{FitsEntry, Holds, batches_of, tables_at}
 use Rattle.vo_spec.specs.Tables.{tables_after}
 use Rattle.vo_spec.specs.Replies.{Reply, FitsReply}
-use Rattle.vo_spec.specs.Honest.{honest_record, honest_reply, honest_trees, reply_of, seal_batches}
+use Rattle.vo_spec.specs.Records.{magic_of}
+use Rattle.vo_spec.specs.Honest.{catalog_of, honest_record, honest_reply, honest_trees, reply_of, seal_batches}
 use Rattle.vo_spec.specs.Owners.{IsSigned, AreLoadable}
 use Rattle.vo_laws.specs.Sealing.{AreAcceptedAfter}
 use Rattle.vo_laws.proofs.EntryLaws.{entry_held}
@@ -115,7 +116,10 @@ reply_after secret batches q r all e =
     }
 
 pub within_limits : (secret : Secret) (batches : List (List Command)) (q : Query) (r : Reply) → AllByRecursion FitsBatch batches → IsReplyAfter secret batches q r → FitsReply r
-within_limits secret batches q r fit after = subst FitsReply (sym after.is) (reply_fits batches q after.entry.rec after.entry.signature fit after.fits.rec after.fits.signature)
+unfolding honest_record
+within_limits secret batches q r fit after =
+    let magic : after.entry.rec.magic ≡ magic_of (catalog_of (honest_trees batches)) = ap (λ (rec : Record). rec.magic) after.record_is in
+    subst FitsReply (sym after.is) (reply_fits batches q after.entry.rec after.entry.signature fit after.fits.rec magic after.fits.signature)
 
 pub replied : (secret : Secret) (batches : List (List Command)) (q : Query) → IsSome (reply_of q (seal_batches secret batches))
 replied secret batches q =
