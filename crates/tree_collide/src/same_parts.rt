@@ -110,6 +110,7 @@ pub fn is_same_value(first: ValueRef<'_>, second: ValueRef<'_>) -> bool
     ensures { IsTrue result ↔ (value_of first.entry ≡ value_of second.entry) }
 {
     match (first, second) {
+        (ValueRef::Null, ValueRef::Null) => true,
         (ValueRef::Int(number), ValueRef::Int(other)) => number == other,
         (ValueRef::Text(bytes), ValueRef::Text(others)) => bytes == others,
         (ValueRef::Bool(truth), ValueRef::Bool(other)) => truth == other,
