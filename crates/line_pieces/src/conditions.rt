@@ -1,5 +1,5 @@
 //! The written form of conditions.
-use crate::form::{WriteForm, end_form, put_argument, start_form};
+use crate::form::{WriteForm, end_form, put_argument, start_form, write_with_one};
 use std::alloc::{AllocError, Global};
 use vo_spec::{Cmp, Cond, Operand, Ref};
 
@@ -16,6 +16,7 @@ fn write_condition(alloc: Global, out: &mut String, cond: &Cond) -> Result<(), A
         Cond::Any(parts) => write_parts(alloc, out, "any", parts.as_slice()),
         Cond::Not(part) => write_negated(alloc, out, part),
         Cond::Test { left, op, right } => write_test(alloc, out, left, *op, right),
+        Cond::IsNull { left, negated } => write_with_one(alloc, out, null_word(*negated), left),
     }
 }
 
@@ -53,6 +54,10 @@ fn write_test(
     put_argument(alloc, out, left)?;
     put_argument(alloc, out, right)?;
     end_form(out)
+}
+
+fn null_word(negated: bool) -> &'static str {
+    if negated { "is_not_null" } else { "is_null" }
 }
 
 fn sign(op: Cmp) -> &'static str {

@@ -21,6 +21,7 @@ impl WriteForm for CommandFault {
             CommandFault::NoColumn => "NoColumn",
             CommandFault::NotKey => "NotKey",
             CommandFault::BadSet => "BadSet",
+            CommandFault::NotNull => "NotNull",
         })?)
     }
 }

@@ -8,6 +8,9 @@ impl WriteForm for Column {
         start_form(out, "column")?;
         put_argument(alloc, out, &self.name)?;
         put_argument(alloc, out, &self.kind)?;
+        if self.nullable {
+            out.push_str(" nullable")?;
+        }
         end_form(out)
     }
 }

@@ -40,6 +40,7 @@ impl WriteForm for Kind {
 impl WriteForm for ValueRef<'_> {
     fn write_form(&self, alloc: Global, out: &mut String) -> Result<(), AllocError> {
         match self {
+            ValueRef::Null => Ok(out.push_str("null")?),
             ValueRef::Int(number) => write_int(alloc, out, *number),
             ValueRef::Text(bytes) => write_text(alloc, out, bytes),
             ValueRef::Bool(truth) => truth.write_form(alloc, out),
