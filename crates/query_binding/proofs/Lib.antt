@@ -1,3 +1,4 @@
+mod CondLaws
 mod FirstLaws
 mod Passing
 mod ShownLaws

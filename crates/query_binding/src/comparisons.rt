@@ -1,15 +1,15 @@
 //! Whether the two sides of each comparison are of one kind.
-ghost use Rattle.std.specs.Prelude.{◌≡◌, [], map, option_map};
+ghost use Rattle.std.specs.Prelude.{◌≡◌, [], ◌∷◌, map, option_map};
 ghost use Rattle.std.specs.Option.{option_map_or};
 ghost use Rattle.vo_spec.specs.Firsts.{first_some};
 ghost use Rattle.vo_spec.specs.Conditions.{condition_of, conditions, of_tests_in, sides, comparisons};
-ghost use Rattle.vo_spec.specs.Results.{ref_kind, operand_kind, kind_fault};
+ghost use Rattle.vo_spec.specs.Results.{ref_kind, is_operand_of, kind_fault};
 ghost use Rattle.query_binding.specs.HeldSources.{bound_sources_seen};
 ghost use Rattle.query_binding.specs.Binding.{PassesBinding};
 
 use crate::bind_fault::BindFault;
 use crate::bound_sources::BoundSources;
-use table_list::{kind_of, same_kind};
+use table_list::{same_kind, takes};
 use vo_spec::{Cond, Kind, Operand, QueryFault, Ref};
 
 pub(crate) fn ref_kind(bound_sources: &BoundSources<'_>, reference: &Ref) -> Kind
@@ -18,12 +18,13 @@ pub(crate) fn ref_kind(bound_sources: &BoundSources<'_>, reference: &Ref) -> Kin
     bound_sources.kind_at(bound_sources.place_of(reference))
 }
 
-fn operand_kind(bound_sources: &BoundSources<'_>, operand: &Operand) -> Kind
-    ensures { result ≡ operand_kind (bound_sources_seen bound_sources.now) operand.now }
+/// Whether the right side is of the kind. NULL is of each.
+fn is_operand_of(bound_sources: &BoundSources<'_>, kind: Kind, operand: &Operand) -> bool
+    ensures { result ≡ is_operand_of (bound_sources_seen bound_sources.now) kind operand.now }
 {
     match operand {
-        Operand::Ref(reference) => ref_kind(bound_sources, reference),
-        Operand::Literal(value) => kind_of(value),
+        Operand::Ref(reference) => same_kind(kind, ref_kind(bound_sources, reference)),
+        Operand::Literal(value) => takes(kind, value.as_ref()),
     }
 }
 
@@ -32,13 +33,10 @@ fn test_kinds(
     left: &Ref,
     right: &Operand,
 ) -> Result<(), BindFault>
-    ensures { PassesBinding result
-        (kind_fault (bound_sources_seen bound_sources.now) (left.now, right.now)) }
+    ensures { PassesBinding result (first_some
+        (kind_fault (bound_sources_seen bound_sources.now) (left.now, right.now) ∷ [])) }
 {
-    if same_kind(
-        ref_kind(bound_sources, left),
-        operand_kind(bound_sources, right),
-    ) {
+    if is_operand_of(bound_sources, ref_kind(bound_sources, left), right) {
         Ok(())
     } else {
         Err(BindFault::Wrong(QueryFault::TypeMismatch))
@@ -57,6 +55,7 @@ fn test_condition(bound_sources: &BoundSources<'_>, cond: &Cond) -> Result<(), B
         Cond::Any(parts) => test_parts(bound_sources, parts.as_slice()),
         Cond::Not(part) => test_condition(bound_sources, part),
         Cond::Test { left, right, .. } => test_kinds(bound_sources, left, right),
+        Cond::IsNull { .. } => Ok(()),
     }
 }
 

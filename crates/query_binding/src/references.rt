@@ -152,6 +152,7 @@ fn test_condition(
         Cond::Any(parts) => test_parts(alloc, bound_sources, parts.as_slice()),
         Cond::Not(part) => test_condition(alloc, bound_sources, part),
         Cond::Test { left, right, .. } => test_compared(alloc, bound_sources, left, right),
+        Cond::IsNull { left, .. } => test_ref(alloc, bound_sources, left),
     }
 }
 
