@@ -82,7 +82,7 @@ module _ (need : Need) (schema : Schema) where
   row_shape named (Cells cells) =
       let columns : List Column = remove schema.columns schema.key in
       cells_shape target.cell_kinds named 0 columns cells (λ i. let same : 0 + i ≡ i = omega arith in ap (slice_get target.cell_kinds) same)
-      ∙ ap (λ (n : ℕ). eqb (length cells) n && (cells_findings target.cell_kinds named 0 cells).has_shape) (sym (length-map columns (λ (c : Column). c.kind)))
+      ∙ ap (λ (n : ℕ). eqb (length cells) n && (cells_findings target.cell_kinds named 0 cells).has_shape) (sym (length-map columns cell_kind_of))
 
   entries_shape : (es : List PartEntry) → list_all (entry_fits schema) es ≡ (entries_findings target es).has_shape
   entries_shape [] = refl

@@ -8,7 +8,7 @@ ghost use Rattle.tree_stream.specs.Parsing.{cell_of};
 
 use crate::findings::{CellFindings, Findings};
 use crate::parse::CellToken;
-use crate::target::Target;
+use crate::target::{CellKind, Target};
 use key_intervals::in_interval;
 use row_bytes::is_key_of;
 use std::alloc::{AllocError, Global};
@@ -57,7 +57,12 @@ pub(crate) fn has_column(columns: &[u8], column: u8) -> bool
 }
 
 /// Of a row that stands as so many cells, before them.
-pub(crate) fn begin_cells(alloc: Global, kinds: &[CellKind], named: &[u8], count: u8) -> CellFindings
+pub(crate) fn begin_cells(
+    alloc: Global,
+    kinds: &[CellKind],
+    named: &[u8],
+    count: u8,
+) -> CellFindings
     ensures { result ≡ row_head_findings kinds.now named.now count }
 {
     CellFindings {
