@@ -1,22 +1,25 @@
 -- What a bound query shows of rows is what the query shows by names.
-use Rattle.std.proofs.Common.{◌≡◌, ℕ, ◌+◌, ◌<◌, Bool, true, false, cond, List, [], ◌∷◌, ◌++◌, Option, Some, None, length, get_or, drop, map, refl, sym, ap, ◌∙◌}
-use Rattle.std.specs.Prelude.{◌&&◌, filter, flat_map, option_map, slice_index_or}
+use Rattle.std.proofs.Common.{◌≡◌, ℕ, zero, suc, ◌+◌, ◌<◌, Bool, true, false, cond, List, [], ◌∷◌, ◌++◌, Option, Some, None, length, get_or, drop, map, refl, sym, ap, ◌∙◌}
+use Rattle.std.specs.Prelude.{◌&&◌, ◌||◌, ◌==◌, filter, flat_map, option_map, slice_index_or}
 use Rattle.std.specs.Option.{option_map_or}
 use Rattle.std.specs.List.{AllByRecursion}
-use Rattle.std.proofs.lemmas.Bool.{eqb-true}
+use Rattle.std.proofs.lemmas.Bool.{eqb-true, both_ways, not-false, or_left, or_right}
 use Rattle.std.proofs.lemmas.List.{drop_more}
+use Rattle.vo_spec.specs.declared.values.Value.{Value}
 use Rattle.vo_spec.specs.declared.queries.Ref.{Ref}
+use Rattle.vo_spec.specs.declared.queries.Cmp.TheVariants as cmp
 use Rattle.vo_spec.specs.declared.queries.Join.{Join}
 use Rattle.vo_spec.specs.declared.tables.Table.{Table}
-use Rattle.vo_spec.specs.Conditions.{Condition, condition_refs, is_met, Query}
-use Rattle.vo_spec.specs.Results.{BoundSource, place_of, shown_places, RowView, no_row_view, place_value, ref_value, is_joined, answer_rows, row_views_at}
+use Rattle.vo_spec.specs.Values.{is_null, value_cmp}
+use Rattle.vo_spec.specs.Conditions.{Condition, condition_refs, is_true, compares, comparison_truth, is_met, Query}
+use Rattle.vo_spec.specs.Results.{BoundSource, ColumnPlace, place_of, shown_places, RowView, no_row_view, place_value, ref_value, is_joined, answer_rows, row_views_at}
 use Rattle.vo_spec.specs.Needs.{left_truth, meets_left as meets_by_names}
 use Rattle.vo_laws.proofs.ListLaws.{each_from, flat_map_kept}
 use Rattle.vo_laws.proofs.ConditionLaws.{SameLeft, same_left}
 use Rattle.vo_laws.proofs.AnswerLaws.{answer_of, answers_of, answer_rows_are, failing_gives_none}
-use Rattle.query_plan.specs.BoundConditions.{all_hold, conjuncts_where}
-use Rattle.query_plan.specs.BoundQueries.{bound_condition, bound_join, bound_query}
-use Rattle.query_plan.specs.Plans.{QueryPlan, plan_of, meets_left}
+use Rattle.query_plan.specs.BoundConditions.{BoundCondition, all_hold, conjuncts_where}
+use Rattle.query_plan.specs.BoundQueries.{BoundQuery, bound_condition, bound_join, bound_query}
+use Rattle.query_plan.specs.Plans.{QueryPlan, plan_of, has_join_value, meets_left}
 use Rattle.query_plan.specs.Answers.{are_joined, answer_at, pair_answers, left_answers, plan_rows}
 use Rattle.query_plan.proofs.MeaningLaws.{same_filter, truth_same, conjuncts_hold, left_same, meets_same}
 
@@ -42,6 +45,36 @@ kept_same {B} test f g e (x ∷ xs) = step (test x) refl (kept_same test f g e x
     step true is rest = ap (λ (ys : List B). ys ++ flat_map f (filter test xs)) (e x is) ∙ ap (λ (ys : List B). g x ++ ys) rest
     step false is rest = rest
 
+-- A left row whose value for ON is NULL is joined with no right row.
+
+module _ (left right : RowView) where
+  -- a NULL of the left row is one beside a right row too
+  null_beside : (bound_source column : ℕ) → is_null (slice_index_or (left ∷ []) bound_source no_row_view column) ≡ true
+      → is_null (slice_index_or (left ∷ right ∷ []) bound_source no_row_view column) ≡ true
+  null_beside zero column e = e
+  null_beside (suc bound_source) column e = absurd (both_ways false refl e)
+
+  joined_by_none : (a b : Value) → (is_null a || is_null b) ≡ true → is_true (comparison_truth cmp.Eq a b) ≡ false
+  joined_by_none a b e = ap (λ n. is_true (cond n None (Some (compares cmp.Eq (value_cmp a b))))) e
+
+  valueless_unjoined : (on : ColumnPlace × ColumnPlace) → has_join_value on left ≡ false → are_joined (place_value (left ∷ right ∷ [])) (Some on) ≡ false
+  valueless_unjoined on e = step (on.0.bound_source == 1) (not-false _ e)
+    where
+      row : ColumnPlace → Value
+      row = place_value (left ∷ right ∷ [])
+
+      step : (b : Bool) → is_null (place_value (left ∷ []) (cond b on.1 on.0)) ≡ true → is_true (comparison_truth cmp.Eq (row on.0) (row on.1)) ≡ false
+      step true n = joined_by_none (row on.0) (row on.1) (or_right (is_null (row on.0)) (is_null (row on.1)) (null_beside on.1.bound_source on.1.column n))
+      step false n = joined_by_none (row on.0) (row on.1) (or_left (is_null (row on.0)) (is_null (row on.1)) (null_beside on.0.bound_source on.0.column n))
+
+pub valueless_gives_none : (b : BoundQuery) (late : List BoundCondition) (on : ColumnPlace × ColumnPlace) (left : RowView) → b.join ≡ Some on → has_join_value on left ≡ false
+    → (rights : List RowView) → pair_answers b late rights left ≡ []
+valueless_gives_none b late on left is e [] = refl
+valueless_gives_none b late on left is e (right ∷ rights) =
+    ap (λ t. cond (t && all_hold (place_value (left ∷ right ∷ [])) late) (map (place_value (left ∷ right ∷ [])) b.output ∷ []) [] ++ pair_answers b late rights left)
+    (ap (are_joined (place_value (left ∷ right ∷ []))) is ∙ valueless_unjoined left right on e)
+    ∙ valueless_gives_none b late on left is e rights
+
 module _ (ss : List BoundSource) (q : Query) where
   abbrev p : QueryPlan
   p = plan_of (bound_query ss q)
@@ -63,7 +96,7 @@ module _ (ss : List BoundSource) (q : Query) where
       left_same ss (place_value (left ∷ rest)) c
       ∙ same_left ss (ref_value ss (left ∷ rest)) (ref_value ss (left ∷ [])) c (left_alone left rest (condition_refs c)) ∙ met in
       ap (λ b. b && all_hold (place_value (left ∷ rest)) (conjuncts_where false (bound_condition ss c))) (sym lefts)
-      ∙ conjuncts_hold (place_value (left ∷ rest)) (bound_condition ss c) ∙ truth_same ss (place_value (left ∷ rest)) c
+      ∙ conjuncts_hold (place_value (left ∷ rest)) (bound_condition ss c) ∙ ap is_true (truth_same ss (place_value (left ∷ rest)) c)
 
   joined_same : (rows : List RowView) (j : Option Join) → are_joined (place_value rows) (option_map (bound_join ss) j) ≡ is_joined ss rows j
   joined_same rows None = refl

@@ -1,28 +1,27 @@
 -- Formulas over other tests, one for one: what is so of each test is so of the formula.
-use Rattle.std.proofs.Common.{◌≡◌, Bool, List, ◌++◌, map, refl, sym, ap, ◌∙◌}
-use Rattle.std.specs.Prelude.{not, ◌&&◌, ◌||◌}
+use Rattle.std.proofs.Common.{◌≡◌, List, ◌++◌, map, refl, sym, ap, ◌∙◌}
 use Rattle.std.proofs.lemmas.List.{map-append}
 use Rattle.vo_spec.specs.declared.keys.Interval.{Interval}
-use Rattle.vo_spec.specs.Conditions.{Formula, Formulas, every, some, negated, test, none, more, truth_by, all_true_by, any_true_by, of_tests, of_tests_in, with_tests, with_tests_in}
+use Rattle.vo_spec.specs.Conditions.{Formula, Formulas, every, some, negated, test, none, more, Truth, both, either, opposite, truth_by, truth_of_all, truth_of_any, of_tests, of_tests_in, with_tests, with_tests_in}
 use Rattle.vo_spec.specs.Needs.{intersection, interval_by, interval_by_all}
 
 module _ {T U : Type 0} (change : T → U) where
   -- truth
-  module _ (one : U → Bool) (other : T → Bool) (same : (t : T) → one (change t) ≡ other t) where
+  module _ (one : U → Truth) (other : T → Truth) (same : (t : T) → one (change t) ≡ other t) where
     mutual
       pub truth_with : (f : Formula T) → truth_by one (with_tests change f) ≡ truth_by other f
       truth_with (every fs) = all_with fs
       truth_with (some fs) = any_with fs
-      truth_with (negated f) = ap not (truth_with f)
+      truth_with (negated f) = ap opposite (truth_with f)
       truth_with (test t) = same t
 
-      all_with : (fs : Formulas T) → all_true_by one (with_tests_in change fs) ≡ all_true_by other fs
+      all_with : (fs : Formulas T) → truth_of_all one (with_tests_in change fs) ≡ truth_of_all other fs
       all_with none = refl
-      all_with (more f fs) = ap (λ b. b && all_true_by one (with_tests_in change fs)) (truth_with f) ∙ ap (λ b. truth_by other f && b) (all_with fs)
+      all_with (more f fs) = ap (λ t. both t (truth_of_all one (with_tests_in change fs))) (truth_with f) ∙ ap (both (truth_by other f)) (all_with fs)
 
-      any_with : (fs : Formulas T) → any_true_by one (with_tests_in change fs) ≡ any_true_by other fs
+      any_with : (fs : Formulas T) → truth_of_any one (with_tests_in change fs) ≡ truth_of_any other fs
       any_with none = refl
-      any_with (more f fs) = ap (λ b. b || any_true_by one (with_tests_in change fs)) (truth_with f) ∙ ap (λ b. truth_by other f || b) (any_with fs)
+      any_with (more f fs) = ap (λ t. either t (truth_of_any one (with_tests_in change fs))) (truth_with f) ∙ ap (either (truth_by other f)) (any_with fs)
 
   -- what the tests have
   module _ {A B : Type 0} (has : U → List B) (had : T → List A) (turn : A → B) (same : (t : T) → has (change t) ≡ map turn (had t)) where

@@ -14,16 +14,16 @@ use Rattle.vo_spec.specs.declared.queries.Operand.TheVariants.{Ref as Column, Li
 use Rattle.vo_spec.specs.declared.queries.Items.{Items}
 use Rattle.vo_spec.specs.declared.queries.Items.TheVariants.{All, Refs}
 use Rattle.vo_spec.specs.declared.queries.Join.{Join}
-use Rattle.vo_spec.specs.Values.{value_cmp, key_of}
+use Rattle.vo_spec.specs.Values.{is_null, key_of}
 use Rattle.vo_spec.specs.Tables.{cell_number}
-use Rattle.vo_spec.specs.Conditions.{every, some, negated, test, none, more, with_tests_in, all_true_by, comparison, NameTest, Condition, Conditions, operand_refs, test_refs, condition_refs, operand_value, compares, test_truth, truth, Query, is_met}
+use Rattle.vo_spec.specs.Conditions.{Truth, is_true, both, every, some, negated, test, none, more, with_tests_in, truth_of_all, comparison, null_test, comparison_truth, NameTest, Condition, Conditions, operand_refs, test_refs, condition_refs, operand_value, test_truth, truth, Query, is_met}
 use Rattle.vo_spec.specs.Results.{BoundSource, ColumnPlace, schema_at, place_of, join_places, item_refs, join_refs, numbers_from, shown_places, RowView, place_value, ref_value}
 use Rattle.vo_spec.specs.Trees.{RowTree}
-use Rattle.vo_spec.specs.Needs.{all_keys, keys_that, join_value, test_interval, interval_of, is_left, left_truth, left_truths, is_place, shows_all, is_named_column, named_cells, uncut_need, left_need, right_need, meets_left as meets_by_names}
-use Rattle.query_plan.specs.BoundConditions.{BoundCondition, BoundConditions, term_value, bound_test_truth, bound_truth, all_hold, term_places, test_places, condition_places, bound_test_interval, bound_interval, is_left_place, is_on_left, one_where, conjuncts_where, all_where}
+use Rattle.vo_spec.specs.Needs.{all_keys, keys_that, join_value, has_join_value as has_value_by_names, test_interval, interval_of, is_left, left_truth, left_truths, is_place, shows_all, is_named_column, named_cells, uncut_need, left_need, right_need, meets_left as meets_by_names}
+use Rattle.query_plan.specs.BoundConditions.{BoundCondition, BoundConditions, term_value, bound_test_truth, bound_truth, holds, all_hold, term_places, test_places, condition_places, bound_test_interval, bound_interval, is_left_place, is_on_left, one_where, conjuncts_where, all_where}
 use Rattle.query_plan.specs.BoundQueries.{bound_term, bound_test, bound_condition, bound_join, bound_query, join_columns}
 use Rattle.query_plan.specs.NamedCells.{is_at, names, is_named_cell, bound_cells}
-use Rattle.query_plan.specs.Plans.{plan_of, plan_need, left_column, right_need_of, meets_left}
+use Rattle.query_plan.specs.Plans.{plan_of, plan_need, left_column, has_join_value, right_need_of, meets_left}
 use Rattle.query_plan.proofs.FormulaLaws.{truth_with, tests_with, interval_with}
 
 -- Tests of mapped items, and tests that agree.
@@ -49,6 +49,7 @@ module _ (ss : List BoundSource) where
 
   test_columns : (t : NameTest) → test_places (bound_test ss t) ≡ map (place_of ss) (test_refs t)
   test_columns (comparison left op right) = ap (λ ps. place_of ss left ∷ ps) (term_columns right)
+  test_columns (null_test left is_not) = refl
 
   pub condition_columns : (c : Condition) → condition_places (bound_condition ss c) ≡ map (place_of ss) (condition_refs c)
   condition_columns c = tests_with (bound_test ss) test_places test_refs (place_of ss) test_columns c
@@ -67,14 +68,15 @@ module _ (ss : List BoundSource) (row : ColumnPlace → Value) where
   term_valued (Literal v) = refl
 
   test_same : (t : NameTest) → bound_test_truth row (bound_test ss t) ≡ test_truth by_name (operand_value by_name) t
-  test_same (comparison left op right) = ap (λ v. compares op (value_cmp (row (place_of ss left)) v)) (term_valued right)
+  test_same (comparison left op right) = ap (comparison_truth op (row (place_of ss left))) (term_valued right)
+  test_same (null_test left is_not) = refl
 
   pub truth_same : (c : Condition) → bound_truth row (bound_condition ss c) ≡ truth by_name c
   truth_same c = truth_with (bound_test ss) (bound_test_truth row) (test_truth by_name (operand_value by_name)) test_same c
 
-  pub met_same : (o : Option Condition) → option_map_or (bound_truth row) (option_map (bound_condition ss) o) true ≡ is_met by_name o
+  pub met_same : (o : Option Condition) → option_map_or (holds row) (option_map (bound_condition ss) o) true ≡ is_met by_name o
   met_same None = refl
-  met_same (Some c) = truth_same c
+  met_same (Some c) = ap is_true (truth_same c)
 
 -- The left interval.
 
@@ -85,6 +87,7 @@ module _ (ss : List BoundSource) where
   test_interval_same : (t : NameTest) → bound_test_interval key (bound_test ss t) ≡ test_interval ss t
   test_interval_same (comparison left op (Column r)) = refl
   test_interval_same (comparison left op (Literal v)) = refl
+  test_interval_same (null_test left is_not) = refl
 
   interval_same : (c : Condition) → bound_interval key (bound_condition ss c) ≡ interval_of ss c
   interval_same c = interval_with (bound_test ss) (bound_test_interval key) (test_interval ss) test_interval_same c
@@ -97,7 +100,7 @@ module _ (ss : List BoundSource) where
 
 hold_append : (row : ColumnPlace → Value) (xs ys : List BoundCondition) → all_hold row (xs ++ ys) ≡ (all_hold row xs && all_hold row ys)
 hold_append row [] ys = refl
-hold_append row (x ∷ xs) ys = ap (λ b. bound_truth row x && b) (hold_append row xs ys) ∙ and_assoc (bound_truth row x) (all_hold row xs) (all_hold row ys)
+hold_append row (x ∷ xs) ys = ap (λ b. holds row x && b) (hold_append row xs ys) ∙ and_assoc (holds row x) (all_hold row xs) (all_hold row ys)
   where
     and_assoc : (a b c : Bool) → (a && (b && c)) ≡ ((a && b) && c)
     and_assoc true b c = refl
@@ -107,20 +110,28 @@ and_true : (b : Bool) → (b && true) ≡ b
 and_true true = refl
 and_true false = refl
 
+-- both are true where each of them is
+true_of_both : (a b : Truth) → is_true (both a b) ≡ (is_true a && is_true b)
+true_of_both (Some true) b = refl
+true_of_both (Some false) b = refl
+true_of_both None (Some true) = refl
+true_of_both None (Some false) = refl
+true_of_both None None = refl
+
 module _ (row : ColumnPlace → Value) where
-  one_left : (c : BoundCondition) → all_hold row (one_where true c) ≡ cond (is_on_left c) (bound_truth row c) true
+  one_left : (c : BoundCondition) → all_hold row (one_where true c) ≡ cond (is_on_left c) (holds row c) true
   one_left c = step (is_on_left c)
     where
-      step : (b : Bool) → all_hold row (cond b (c ∷ []) []) ≡ cond b (bound_truth row c) true
-      step true = and_true (bound_truth row c)
+      step : (b : Bool) → all_hold row (cond b (c ∷ []) []) ≡ cond b (holds row c) true
+      step true = and_true (holds row c)
       step false = refl
 
-  one_of_both : (c : BoundCondition) → (all_hold row (one_where true c) && all_hold row (one_where false c)) ≡ bound_truth row c
+  one_of_both : (c : BoundCondition) → (all_hold row (one_where true c) && all_hold row (one_where false c)) ≡ holds row c
   one_of_both c = step (is_on_left c)
     where
-      step : (b : Bool) → (all_hold row (cond b (c ∷ []) []) && all_hold row (cond (not b) (c ∷ []) [])) ≡ bound_truth row c
-      step true = and_true (bound_truth row c && true) ∙ and_true (bound_truth row c)
-      step false = and_true (bound_truth row c)
+      step : (b : Bool) → (all_hold row (cond b (c ∷ []) []) && all_hold row (cond (not b) (c ∷ []) [])) ≡ holds row c
+      step true = and_true (holds row c && true) ∙ and_true (holds row c)
+      step false = and_true (holds row c)
 
   regroup : (a b c d : Bool) → ((a && b) && (c && d)) ≡ ((a && c) && (b && d))
   regroup false b c d = refl
@@ -130,30 +141,31 @@ module _ (row : ColumnPlace → Value) where
 
   -- the conjuncts together are the condition
   mutual
-    pub conjuncts_hold : (c : BoundCondition) → (all_hold row (conjuncts_where true c) && all_hold row (conjuncts_where false c)) ≡ bound_truth row c
+    pub conjuncts_hold : (c : BoundCondition) → (all_hold row (conjuncts_where true c) && all_hold row (conjuncts_where false c)) ≡ holds row c
     conjuncts_hold (every cs) = parts_hold cs
     conjuncts_hold (some cs) = one_of_both (some cs)
     conjuncts_hold (negated c) = one_of_both (negated c)
     conjuncts_hold (test t) = one_of_both (test t)
 
-    parts_hold : (cs : BoundConditions) → (all_hold row (all_where true cs) && all_hold row (all_where false cs)) ≡ all_true_by (bound_test_truth row) cs
+    parts_hold : (cs : BoundConditions) → (all_hold row (all_where true cs) && all_hold row (all_where false cs)) ≡ is_true (truth_of_all (bound_test_truth row) cs)
     parts_hold none = refl
     parts_hold (more c cs) =
         ap (λ b. b && all_hold row (all_where false (more c cs))) (hold_append row (conjuncts_where true c) (all_where true cs))
         ∙ ap (λ b. (all_hold row (conjuncts_where true c) && all_hold row (all_where true cs)) && b) (hold_append row (conjuncts_where false c) (all_where false cs))
         ∙ regroup (all_hold row (conjuncts_where true c)) (all_hold row (all_where true cs)) (all_hold row (conjuncts_where false c)) (all_hold row (all_where false cs))
         ∙ ap (λ b. b && (all_hold row (all_where true cs) && all_hold row (all_where false cs))) (conjuncts_hold c)
-        ∙ ap (λ b. bound_truth row c && b) (parts_hold cs)
+        ∙ ap (λ b. holds row c && b) (parts_hold cs)
+        ∙ sym (true_of_both (bound_truth row c) (truth_of_all (bound_test_truth row) cs))
 
 module _ (ss : List BoundSource) (row : ColumnPlace → Value) where
   abbrev named : Ref → Value
   named r = row (place_of ss r)
 
-  one_same : (c : Condition) → all_hold row (one_where true (bound_condition ss c)) ≡ cond (is_left ss c) (truth named c) true
+  one_same : (c : Condition) → all_hold row (one_where true (bound_condition ss c)) ≡ cond (is_left ss c) (is_true (truth named c)) true
   one_same c =
       one_left row (bound_condition ss c)
-      ∙ ap (λ b. cond b (bound_truth row (bound_condition ss c)) true) (left_columns ss c)
-      ∙ ap (λ t. cond (is_left ss c) t true) (truth_same ss row c)
+      ∙ ap (λ b. cond b (holds row (bound_condition ss c)) true) (left_columns ss c)
+      ∙ ap (λ t. cond (is_left ss c) (is_true t) true) (truth_same ss row c)
 
   mutual
     pub left_same : (c : Condition) → all_hold row (conjuncts_where true (bound_condition ss c)) ≡ left_truth ss named c
@@ -168,6 +180,19 @@ module _ (ss : List BoundSource) (row : ColumnPlace → Value) where
         hold_append row (conjuncts_where true (bound_condition ss c)) (all_where true (with_tests_in (bound_test ss) cs))
         ∙ ap (λ b. b && all_hold row (all_where true (with_tests_in (bound_test ss) cs))) (left_same c)
         ∙ ap (λ b. left_truth ss named c && b) (lefts_same cs)
+
+-- ON's column of the left source, and whether a left row has a value there.
+
+choice : (b : Bool) (x y : ColumnPlace) → cond b y x ≡ (let p : ColumnPlace × ColumnPlace = cond b (y, x) (x, y) in p.0)
+choice true x y = refl
+choice false x y = refl
+
+module _ (ss : List BoundSource) where
+  column_same : (j : Join) → left_column (bound_join ss j) ≡ (join_places ss j).0
+  column_same j = choice ((place_of ss j.left_ref).bound_source == 1) (place_of ss j.left_ref) (place_of ss j.right_ref)
+
+  pub value_same : (j : Join) (left : RowView) → has_join_value (bound_join ss j) left ≡ has_value_by_names ss j left
+  value_same j left = ap (λ (p : ColumnPlace). not (is_null (place_value (left ∷ []) p))) (column_same j)
 
 -- The cells that a query names.
 
@@ -221,16 +246,9 @@ module _ (ss : List BoundSource) (q : Query) where
   pub left_need_same : (left : RowTree) → plan_need (plan_of (bound_query ss q)) left ≡ left_need ss q left
   left_need_same left = uncut_need_same
 
-  choice : (b : Bool) (x y : ColumnPlace) → cond b y x ≡ (let p : ColumnPlace × ColumnPlace = cond b (y, x) (x, y) in p.0)
-  choice true x y = refl
-  choice false x y = refl
-
-  column_same : (j : Join) → left_column (bound_join ss j) ≡ (join_places ss j).0
-  column_same j = choice ((place_of ss j.left_ref).bound_source == 1) (place_of ss j.left_ref) (place_of ss j.right_ref)
-
   pub right_need_same : (j : Join) (left : RowView) → right_need_of (plan_of (bound_query ss q)) (bound_join ss j) left ≡ right_need ss q j left
   right_need_same j left =
-      ap (λ (p : ColumnPlace). let n : Need = record { interval = keys_that cmp.Eq (key_of (place_value (left ∷ []) p)); columns = bound_cells (bound_query ss q) 1 } in n) (column_same j)
+      ap (λ (p : ColumnPlace). let n : Need = record { interval = keys_that cmp.Eq (key_of (place_value (left ∷ []) p)); columns = bound_cells (bound_query ss q) 1 } in n) (column_same ss j)
       ∙ ap (λ (cs : List ℕ). let n : Need = record { interval = keys_that cmp.Eq (key_of (join_value ss j left)); columns = cs } in n) (cells_same 1)
 
   meets_by : (o : Option Condition) (left : RowView) → all_hold (place_value (left ∷ [])) (option_map_or (conjuncts_where true) (option_map (bound_condition ss) o) [])

@@ -1,9 +1,9 @@
 -- What a bound query shows of rows of its sources, by the conjuncts that are asked of them.
 use Rattle.std.specs.Prelude.{◌≡◌, Bool, true, ◌&&◌, if◌then◌else◌, List, [], ◌∷◌, ◌++◌, map, filter, flat_map, Option, Some, None}
-use Rattle.std.specs.Ordering.{is_eq}
 use Rattle.vo_spec.specs.declared.values.Value.{Value}
 use Rattle.vo_spec.specs.declared.tables.Table.{Table}
-use Rattle.vo_spec.specs.Values.{value_cmp}
+use Rattle.vo_spec.specs.declared.queries.Cmp.TheVariants as cmp
+use Rattle.vo_spec.specs.Conditions.{is_true, comparison_truth}
 use Rattle.vo_spec.specs.Results.{ColumnPlace, RowView, place_value, row_views_at}
 use Rattle.query_plan.specs.BoundConditions.{BoundCondition, all_hold}
 use Rattle.query_plan.specs.BoundQueries.{BoundQuery}
@@ -13,10 +13,10 @@ use Rattle.query_plan.specs.Plans.{QueryPlan, meets_left}
 abbrev pub BeginsWith : {A : Type 0} → List A → List A → Type 0
 BeginsWith {A} front items = (more : List A) × (items ≡ front ++ more)
 
--- whether ON's columns are equal
+-- whether ON's columns are equal, neither of them NULL
 abbrev pub are_joined : (ColumnPlace → Value) → Option (ColumnPlace × ColumnPlace) → Bool
 are_joined row None = true
-are_joined row (Some on) = is_eq (value_cmp (row on.0) (row on.1))
+are_joined row (Some on) = is_true (comparison_truth cmp.Eq (row on.0) (row on.1))
 
 -- what is shown of rows, as values by place, where they are joined and meet the conjuncts
 abbrev pub answer_at : BoundQuery → List BoundCondition → (ColumnPlace → Value) → List (List Value)

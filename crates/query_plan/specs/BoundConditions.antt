@@ -4,10 +4,9 @@ use Rattle.std.specs.Prelude.{ℕ, Bool, not, ◌&&◌, ◌==◌, if◌then◌el
 use Rattle.std.specs.List.{list_all}
 use Rattle.vo_spec.specs.declared.values.Value.{Value}
 use Rattle.vo_spec.specs.declared.keys.Interval.{Interval}
-use Rattle.vo_spec.specs.Values.{key_of}
-use Rattle.vo_spec.specs.Conditions.{Formula, Formulas, every, some, negated, test, none, more, Test, comparison, test_truth, truth_by, of_tests}
+use Rattle.vo_spec.specs.Conditions.{Formula, Formulas, every, some, negated, test, none, more, Test, comparison, null_test, Truth, is_true, test_truth, truth_by, of_tests}
 use Rattle.vo_spec.specs.Results.{ColumnPlace}
-use Rattle.vo_spec.specs.Needs.{all_keys, keys_that, interval_by}
+use Rattle.vo_spec.specs.Needs.{all_keys, keys_that_compare, interval_by}
 
 -- the right side of a comparison
 pub data BoundTerm : Type 0 where
@@ -29,15 +28,18 @@ abbrev pub term_value : (ColumnPlace → Value) → BoundTerm → Value
 term_value row (column p) = row p
 term_value row (literal v) = v
 
-abbrev pub bound_test_truth : (ColumnPlace → Value) → BoundTest → Bool
+abbrev pub bound_test_truth : (ColumnPlace → Value) → BoundTest → Truth
 bound_test_truth row t = test_truth row (term_value row) t
 
-abbrev pub bound_truth : (ColumnPlace → Value) → BoundCondition → Bool
+abbrev pub bound_truth : (ColumnPlace → Value) → BoundCondition → Truth
 bound_truth row c = truth_by (bound_test_truth row) c
 
--- whether rows meet all of these conditions
+-- whether rows meet the condition, and all of some
+abbrev pub holds : (ColumnPlace → Value) → BoundCondition → Bool
+holds row c = is_true (bound_truth row c)
+
 abbrev pub all_hold : (ColumnPlace → Value) → List BoundCondition → Bool
-all_hold row cs = list_all (bound_truth row) cs
+all_hold row cs = list_all (holds row) cs
 
 -- The columns that a condition speaks of.
 
@@ -47,6 +49,7 @@ term_places (literal v) = []
 
 abbrev pub test_places : BoundTest → List ColumnPlace
 test_places (comparison left op right) = left ∷ term_places right
+test_places (null_test left is_not) = left ∷ []
 
 abbrev pub condition_places : BoundCondition → List ColumnPlace
 condition_places c = of_tests test_places c
@@ -60,7 +63,8 @@ is_left_key key p = p.bound_source == 0 && p.column == key
 abbrev pub bound_test_interval : ℕ → BoundTest → Interval
 bound_test_interval key (comparison left op (column p)) = all_keys
 bound_test_interval key (comparison left op (literal v)) = if is_left_key key left
-    then keys_that op (key_of v) else all_keys
+    then keys_that_compare op v else all_keys
+bound_test_interval key (null_test left is_not) = all_keys
 
 abbrev pub bound_interval : ℕ → BoundCondition → Interval
 bound_interval key c = interval_by (bound_test_interval key) c

@@ -8,7 +8,7 @@ use Rattle.vo_spec.specs.declared.queries.Operand.{Operand}
 use Rattle.vo_spec.specs.declared.queries.Operand.TheVariants.{Ref as Column, Literal}
 use Rattle.vo_spec.specs.declared.queries.Items.{Items}
 use Rattle.vo_spec.specs.declared.queries.Join.{Join}
-use Rattle.vo_spec.specs.Conditions.{NameTest, comparison, with_tests, Condition, Query, FitsOperand}
+use Rattle.vo_spec.specs.Conditions.{NameTest, comparison, null_test, with_tests, Condition, Query, FitsOperand}
 use Rattle.vo_spec.specs.Results.{BoundSource, ColumnPlace, place_of, shown_places}
 use Rattle.query_plan.specs.BoundConditions.{BoundTerm, column, literal, BoundTest, BoundCondition, condition_places}
 
@@ -27,6 +27,7 @@ bound_term ss (Literal v) = literal v
 
 abbrev pub bound_test : List BoundSource → NameTest → BoundTest
 bound_test ss (comparison left op right) = comparison (place_of ss left) op (bound_term ss right)
+bound_test ss (null_test left is_not) = null_test (place_of ss left) is_not
 
 abbrev pub bound_condition : List BoundSource → Condition → BoundCondition
 bound_condition ss c = with_tests (bound_test ss) c

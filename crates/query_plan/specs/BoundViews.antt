@@ -1,13 +1,13 @@
 -- Bound conditions and queries as the program holds them.
 use Rattle.std.specs.Prelude.{List, [], ◌∷◌, map, option_map}
 use Rattle.vo_spec.specs.Lent.{value_of}
-use Rattle.vo_spec.specs.Conditions.{every, some, negated, test, none, more, comparison}
+use Rattle.vo_spec.specs.Conditions.{every, some, negated, test, none, more, comparison, null_test}
 use Rattle.vo_spec.specs.Results.{ColumnPlace}
 use Rattle.query_binding.specs.HeldSources.{bound_sources_seen, place_seen}
 use Rattle.query_plan.specs.declared.bound_cond.BoundOperand.{BoundOperand}
 use Rattle.query_plan.specs.declared.bound_cond.BoundOperand.TheVariants.{Column, Literal}
 use Rattle.query_plan.specs.declared.bound_cond.BoundTest.{BoundTest as HeldTest}
-use Rattle.query_plan.specs.declared.bound_cond.BoundTest.TheVariants.{Comparison}
+use Rattle.query_plan.specs.declared.bound_cond.BoundTest.TheVariants.{Comparison, IsNull}
 use Rattle.query_plan.specs.declared.bound_cond.BoundCond.{BoundCond, fold-BoundCond}
 use Rattle.query_plan.specs.declared.bound_cond.BoundCond.TheOpen.{BoundCond-F}
 use Rattle.query_plan.specs.declared.bound_cond.Conjunct.{Conjunct}
@@ -22,6 +22,7 @@ term_seen (Literal v) = literal (value_of v)
 
 abbrev pub test_seen : HeldTest → BoundTest
 test_seen (Comparison left op right) = comparison (place_seen left) op (term_seen right)
+test_seen (IsNull left is_not) = null_test (place_seen left) is_not
 
 abbrev pub parts_seen : List BoundCondition → BoundConditions
 parts_seen [] = none

@@ -1,9 +1,9 @@
 -- Plans: what of a query can be worked out before any row is seen.
-use Rattle.std.specs.Prelude.{ℕ, Bool, ◌==◌, true, false, if◌then◌else◌, List, [], ◌∷◌}
+use Rattle.std.specs.Prelude.{ℕ, Bool, ◌==◌, not, true, false, if◌then◌else◌, List, [], ◌∷◌}
 use Rattle.std.specs.Option.{option_map_or}
 use Rattle.vo_spec.specs.declared.needs.Need.{Need}
 use Rattle.vo_spec.specs.declared.queries.Cmp.TheVariants as cmp
-use Rattle.vo_spec.specs.Values.{key_of}
+use Rattle.vo_spec.specs.Values.{is_null, key_of}
 use Rattle.vo_spec.specs.Results.{ColumnPlace, schema_at, RowView, place_value}
 use Rattle.vo_spec.specs.Trees.{RowTree}
 use Rattle.vo_spec.specs.Needs.{all_keys, keys_that}
@@ -43,7 +43,11 @@ plan_need p left = p.uncut_need
 abbrev pub left_column : ColumnPlace × ColumnPlace → ColumnPlace
 left_column on = if on.0.bound_source == 1 then on.1 else on.0
 
--- what a left row needs of the right tree: the row whose key is ON's value
+-- whether a left row has a value there: NULL is equal to no key
+abbrev pub has_join_value : ColumnPlace × ColumnPlace → RowView → Bool
+has_join_value on left = not (is_null (place_value (left ∷ []) (left_column on)))
+
+-- what a left row that has one needs of the right tree: the row whose key is ON's value
 abbrev pub right_need_of : QueryPlan → ColumnPlace × ColumnPlace → RowView → Need
 right_need_of p on left = record {
   interval = keys_that cmp.Eq (key_of (place_value (left ∷ []) (left_column on)));

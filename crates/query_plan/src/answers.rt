@@ -7,20 +7,24 @@ ghost use Rattle.query_plan.specs.Answers.{BeginsWith, are_joined, answer_at, pa
 
 use crate::bound_cond::Conjunct;
 use crate::bound_query::{BoundJoin, Query};
+use crate::comparisons::comparison_truth;
 use crate::row_views::RowView;
 use crate::rows::{LeftRow, PlaceValues, RowPair};
-use crate::truths::all_hold;
-use crate::value_order::compare_values;
+use crate::truths::{all_hold, is_true};
 use query_binding::ColumnPlace;
 use std::alloc::{AllocError, Global};
-use vo_spec::{List, Value};
+use vo_spec::{Cmp, List, Value};
 
 fn are_joined<V: PlaceValues>(rows: &V, join: &Option<BoundJoin>) -> bool
     ensures { result ≡ are_joined (V.values rows.now) (option_map join_seen join.now) }
 {
     match join {
         None => true,
-        Some(join) => compare_values(rows.value(join.first), rows.value(join.second)).is_eq(),
+        Some(join) => is_true(comparison_truth(
+            Cmp::Eq,
+            rows.value(join.first),
+            rows.value(join.second),
+        )),
     }
 }
 

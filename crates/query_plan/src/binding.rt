@@ -53,6 +53,10 @@ fn bind_condition<'q>(
             op: *op,
             right: bind_operand(bound_sources, right),
         })),
+        Cond::IsNull { left, negated } => Ok(BoundCond::Test(BoundTest::IsNull {
+            left: bound_sources.place_of(left),
+            negated: *negated,
+        })),
     }
 }
 

@@ -17,6 +17,11 @@ pub enum BoundTest<'q> {
         op: Cmp,
         right: BoundOperand<'q>,
     },
+    /// IS NULL, or IS NOT NULL where it is negated.
+    IsNull {
+        left: ColumnPlace,
+        negated: bool,
+    },
 }
 
 /// A condition that is bound to the sources of its query.

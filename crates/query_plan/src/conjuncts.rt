@@ -41,6 +41,7 @@ fn is_test_on_left(test: &BoundTest<'_>) -> bool
         BoundTest::Comparison { left, right, .. } => {
             left.bound_source == 0 && is_operand_on_left(right)
         },
+        BoundTest::IsNull { left, .. } => left.bound_source == 0,
     }
 }
 

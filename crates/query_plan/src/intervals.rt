@@ -2,7 +2,7 @@
 ghost use Rattle.std.specs.Prelude.{◌≡◌, IfOk};
 ghost use Rattle.vo_spec.specs.Lent.{value_of};
 ghost use Rattle.vo_spec.specs.Values.{key_lt as is_less, key_of as key_bytes};
-ghost use Rattle.vo_spec.specs.Needs.{all_keys, keys_that, higher, lower, intersection};
+ghost use Rattle.vo_spec.specs.Needs.{all_keys, keys_that, keys_that_compare, higher, lower, intersection};
 
 use row_bytes::key_of;
 use std::alloc::{AllocError, Global};
@@ -39,6 +39,21 @@ pub(crate) fn keys_that(alloc: Global, op: Cmp, value: ValueRef<'_>) -> Result<I
         Cmp::Ge => (Bound::Inclusive(key), Bound::Absent),
     };
     Ok(Interval { low, high })
+}
+
+/// The keys that such a comparison with the value lets through. One with NULL bounds none.
+pub(crate) fn keys_that_compare(
+    alloc: Global,
+    op: Cmp,
+    value: ValueRef<'_>,
+) -> Result<Interval, AllocError>
+    ensures { IfOk result (λ interval. interval ≡ keys_that_compare op (value_of value.entry)) }
+{
+    if value.is_null() {
+        Ok(all_keys())
+    } else {
+        keys_that(alloc, op, value)
+    }
 }
 
 /// The higher one of two lower bounds.

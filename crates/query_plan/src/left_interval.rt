@@ -6,7 +6,7 @@ ghost use Rattle.query_plan.specs.BoundConditions.{is_left_key, bound_test_inter
 ghost use Rattle.query_plan.specs.BoundViews.{test_seen, parts_seen, condition_seen};
 
 use crate::bound_cond::{BoundCond, BoundOperand, BoundTest};
-use crate::intervals::{all_keys, intersection, keys_that};
+use crate::intervals::{all_keys, intersection, keys_that_compare};
 use query_binding::ColumnPlace;
 use std::alloc::{AllocError, Global};
 use vo_spec::Interval;
@@ -26,8 +26,8 @@ fn test_interval(alloc: Global, key: usize, test: &BoundTest<'_>) -> Result<Inte
             left,
             op,
             right: BoundOperand::Literal(value),
-        } if is_left_key(key, *left) => keys_that(alloc, *op, *value),
-        BoundTest::Comparison { .. } => Ok(all_keys()),
+        } if is_left_key(key, *left) => keys_that_compare(alloc, *op, *value),
+        BoundTest::Comparison { .. } | BoundTest::IsNull { .. } => Ok(all_keys()),
     }
 }
 

@@ -66,6 +66,7 @@ fn test_names(at: ColumnPlace, test: &BoundTest<'_>) -> bool
 {
     match test {
         BoundTest::Comparison { left, right, .. } => is_at(at, *left) || operand_names(at, right),
+        BoundTest::IsNull { left, .. } => is_at(at, *left),
     }
 }
 

@@ -5,7 +5,7 @@ ghost use Rattle.vo_spec.specs.Results.{schema_at};
 ghost use Rattle.query_binding.specs.HeldSources.{bound_sources_seen, place_seen};
 ghost use Rattle.query_plan.specs.BoundConditions.{all_hold};
 ghost use Rattle.query_plan.specs.BoundViews.{join_seen};
-ghost use Rattle.query_plan.specs.Plans.{left_column, right_need_of, meets_left};
+ghost use Rattle.query_plan.specs.Plans.{left_column, has_join_value, right_need_of, meets_left};
 ghost use Rattle.query_plan.specs.PlanViews.{plan_seen};
 
 use crate::bound_query::BoundJoin;
@@ -46,6 +46,15 @@ fn left_column(join: BoundJoin) -> ColumnPlace
     } else {
         join.first
     }
+}
+
+/// Whether the left row has a value for ON. NULL is equal to no key, so a row that has it needs no
+/// right row.
+pub fn has_join_value<L: RowView>(join: BoundJoin, left: &L) -> bool
+    ensures { result ≡ has_join_value (join_seen join) (L.row_view left.now) }
+{
+    let rows = LeftRow { left };
+    !rows.value(left_column(join)).is_null()
 }
 
 /// What the query needs of the right tree for this left row: the row whose key is ON's value.

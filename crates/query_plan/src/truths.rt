@@ -1,28 +1,28 @@
-//! When rows of a query's sources meet a bound condition.
+//! When rows of a query's sources meet a bound condition. A truth is None where it is unknown.
 ghost use Rattle.std.specs.Prelude.{◌≡◌, map, drop};
 ghost use Rattle.vo_spec.specs.Lent.{value_of};
-ghost use Rattle.vo_spec.specs.Conditions.{compares, all_true_by, any_true_by};
+ghost use Rattle.vo_spec.specs.Conditions.{is_true, opposite, truth_of_all, truth_of_any};
 ghost use Rattle.query_binding.specs.HeldSources.{place_seen};
 ghost use Rattle.query_plan.specs.BoundConditions.{term_value, bound_test_truth, bound_truth, all_hold};
 ghost use Rattle.query_plan.specs.BoundViews.{term_seen, test_seen, parts_seen, condition_seen, conjunct_seen};
 
 use crate::bound_cond::{BoundCond, BoundOperand, BoundTest, Conjunct};
+use crate::comparisons::comparison_truth;
 use crate::rows::PlaceValues;
-use crate::value_order::compare_values;
-use std::cmp::Ordering;
-use vo_spec::{Cmp, ValueRef};
+use vo_spec::ValueRef;
 
-fn compares(op: Cmp, ordering: Ordering) -> bool
-    ensures { result ≡ compares op ordering }
+/// Whether it is true: neither false nor unknown.
+pub(crate) fn is_true(truth: Option<bool>) -> bool
+    ensures { result ≡ is_true truth }
 {
-    match op {
-        Cmp::Eq => ordering.is_eq(),
-        Cmp::Ne => ordering.is_ne(),
-        Cmp::Lt => ordering.is_lt(),
-        Cmp::Le => ordering.is_le(),
-        Cmp::Gt => ordering.is_gt(),
-        Cmp::Ge => ordering.is_ge(),
-    }
+    truth.unwrap_or(false)
+}
+
+/// True and false exchanged, unknown kept.
+fn opposite(truth: Option<bool>) -> Option<bool>
+    ensures { result ≡ opposite truth }
+{
+    truth.map(|holds| !holds)
 }
 
 fn operand_value<'r, V: PlaceValues>(operand: &'r BoundOperand<'r>, rows: &'r V) -> ValueRef<'r>
@@ -34,57 +34,63 @@ fn operand_value<'r, V: PlaceValues>(operand: &'r BoundOperand<'r>, rows: &'r V)
     }
 }
 
-/// Whether the test is true of the rows.
-fn test_truth<V: PlaceValues>(test: &BoundTest<'_>, rows: &V) -> bool
+/// The truth of the test of the rows.
+fn test_truth<V: PlaceValues>(test: &BoundTest<'_>, rows: &V) -> Option<bool>
     ensures { result ≡ bound_test_truth (V.values rows.now) (test_seen test.now) }
 {
     match test {
         BoundTest::Comparison { left, op, right } => {
-            compares(
-                *op,
-                compare_values(rows.value(*left), operand_value(right, rows)),
-            )
+            comparison_truth(*op, rows.value(*left), operand_value(right, rows))
         },
+        BoundTest::IsNull { left, negated } => Some(rows.value(*left).is_null() != *negated),
     }
 }
 
-/// Whether the condition is true of the rows.
+/// The truth of the condition of the rows.
 #[cycle(truth)]
-fn truth<V: PlaceValues>(cond: &BoundCond<'_>, rows: &V) -> bool
+fn truth<V: PlaceValues>(cond: &BoundCond<'_>, rows: &V) -> Option<bool>
     ensures { result ≡ bound_truth (V.values rows.now) (condition_seen cond.now) }
 {
     match cond {
-        BoundCond::All(parts) => every_true(parts.as_slice(), rows),
-        BoundCond::Any(parts) => some_true(parts.as_slice(), rows),
-        BoundCond::Not(part) => !truth(part, rows),
+        BoundCond::All(parts) => truth_of_all(parts.as_slice(), rows),
+        BoundCond::Any(parts) => truth_of_any(parts.as_slice(), rows),
+        BoundCond::Not(part) => opposite(truth(part, rows)),
         BoundCond::Test(test) => test_truth(test, rows),
     }
 }
 
+/// False where a part is, else unknown where a part is.
 #[cycle(truth)]
-fn every_true<V: PlaceValues>(parts: &[BoundCond<'_>], rows: &V) -> bool
-    ensures { result ≡ all_true_by (bound_test_truth (V.values rows.now))
+fn truth_of_all<V: PlaceValues>(parts: &[BoundCond<'_>], rows: &V) -> Option<bool>
+    ensures { result ≡ truth_of_all (bound_test_truth (V.values rows.now))
         (parts_seen (map condition_seen parts.now)) }
 {
+    let mut known = true;
     for part in parts {
-        if !truth(part, rows) {
-            return false;
+        match truth(part, rows) {
+            Some(true) => {},
+            Some(false) => return Some(false),
+            None => known = false,
         }
     }
-    true
+    known.then_some(true)
 }
 
+/// True where a part is, else unknown where a part is.
 #[cycle(truth)]
-fn some_true<V: PlaceValues>(parts: &[BoundCond<'_>], rows: &V) -> bool
-    ensures { result ≡ any_true_by (bound_test_truth (V.values rows.now))
+fn truth_of_any<V: PlaceValues>(parts: &[BoundCond<'_>], rows: &V) -> Option<bool>
+    ensures { result ≡ truth_of_any (bound_test_truth (V.values rows.now))
         (parts_seen (map condition_seen parts.now)) }
 {
+    let mut known = true;
     for part in parts {
-        if truth(part, rows) {
-            return true;
+        match truth(part, rows) {
+            Some(true) => return Some(true),
+            Some(false) => {},
+            None => known = false,
         }
     }
-    false
+    known.then_some(false)
 }
 
 /// Whether all of these conjuncts are true of the rows.
@@ -92,7 +98,7 @@ pub fn all_hold<V: PlaceValues>(conjuncts: &[Conjunct<'_, '_>], rows: &V) -> boo
     ensures { result ≡ all_hold (V.values rows.now) (map conjunct_seen conjuncts.now) }
 {
     for conjunct in conjuncts {
-        if !truth(conjunct.cond, rows) {
+        if !is_true(truth(conjunct.cond, rows)) {
             return false;
         }
     }
