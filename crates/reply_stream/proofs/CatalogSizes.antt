@@ -4,17 +4,18 @@ use Rattle.std.specs.Prelude.{if◌then◌else◌}
 use Rattle.std.proofs.lemmas.Bool.{cases_Bool, ltb-false, leb-true}
 use Rattle.std.proofs.lemmas.List.{length-drop, length-take-le}
 use Rattle.vo_spec.specs.declared.records.Catalog.{Catalog}
+use Rattle.vo_spec.specs.declared.records.Magic.{Magic}
 use Rattle.vo_spec.specs.Bytes.{u16_of, u64_of}
 use Rattle.vo_spec.specs.Batches.{max_columns}
 use Rattle.vo_spec.specs.Names.{is_name}
 use Rattle.vo_spec.specs.Tables.{max_tables}
 use Rattle.row_bytes.specs.Reading.{byte_at, bytes_at, u16_at, u64_at}
-use Rattle.row_bytes.specs.Fields.{◌>>=◌, where_true, short_string_at, name_at, kind_of_byte, kind_at, column_at, count_at, columns_at, times, whole}
+use Rattle.row_bytes.specs.Fields.{◌>>=◌, where_true, short_string_at, name_at, type_of_byte, type_at, column_at, count_at, columns_at, times, whole}
 use Rattle.batch_format.specs.BatchReading.{Reader}
 use Rattle.batch_format.proofs.Fitting.{name_is_short}
 use Rattle.batch_format.proofs.ReaderLaws.{bound, some_is, tested, no_some, all_true}
-use Rattle.vo_spec.specs.Records.{are_rising, max_catalog}
-use Rattle.version_record.specs.Reading.{schema_at, catalog_table_at, names_of, catalog_at}
+use Rattle.vo_spec.specs.Records.{are_rising, magic_of, max_catalog}
+use Rattle.version_record.specs.Reading.{schema_at, catalog_table_at, names_of, catalog_at, catalog_of_record, same_magic}
 use Rattle.version_record.proofs.RecordLaws.{whole_is}
 use Rattle.reply_stream.proofs.Locals.{seen_at}
 
@@ -101,16 +102,16 @@ name_takes bytes name rest e =
     let short : length a.0.0 ≤ 63 = name_is_short a.0.0 t.0 in
     omega (arith, byte_takes bytes b.0.0 b.0.1 b.1, bytes_takes b.0.0 b.0.1 a.0.0 a.0.1 b.2, bytes_length b.0.0 b.0.1 a.0.0 a.0.1 b.2, short, ap (λ (p : List ℕ × List ℕ). length p.1) t.1)
 
-kind_takes : TakesUpTo kind_at 1
-unfolding kind_at
-kind_takes bytes k rest e =
-    let a = bound (byte_at bytes) (λ byte. kind_of_byte byte.0 >>= λ k. Some (k, byte.1)) (k, rest) e in
-    let b = bound (kind_of_byte a.0.0) (λ k. Some (k, a.0.1)) (k, rest) a.2 in
-    omega (arith, byte_takes bytes a.0.0 a.0.1 a.1, made_takes b.0 a.0.1 k rest b.2)
+type_takes : TakesUpTo type_at 1
+unfolding type_at
+type_takes bytes of rest e =
+    let a = bound (byte_at bytes) (λ byte. type_of_byte byte.0 >>= λ of. Some (of, byte.1)) (of, rest) e in
+    let b = bound (type_of_byte a.0.0) (λ of. Some (of, a.0.1)) (of, rest) a.2 in
+    omega (arith, byte_takes bytes a.0.0 a.0.1 a.1, made_takes b.0 a.0.1 of rest b.2)
 
 column_takes : TakesUpTo column_at 65
 unfolding column_at
-column_takes = then_takes name_at _ 64 1 name_takes (λ name. then_takes kind_at _ 1 0 kind_takes (λ k. made_takes _))
+column_takes = then_takes name_at _ 64 1 name_takes (λ name. then_takes type_at _ 1 0 type_takes (λ of. made_takes _))
 
 columns_takes : TakesUpTo columns_at 2081
 unfolding columns_at count_at
@@ -148,6 +149,11 @@ none_of : (o : Option Catalog) → ((c : Catalog) → o ≡ Some c → ⊥) → 
 none_of None none = refl
 none_of (Some c) none = absurd (none c refl)
 
-pub too_long_for_catalog : (bytes : List ℕ) → max_catalog < length bytes → whole (catalog_at bytes) ≡ None
+too_long_for_catalog : (bytes : List ℕ) → max_catalog < length bytes → whole (catalog_at bytes) ≡ None
 too_long_for_catalog bytes long =
     none_of (whole (catalog_at bytes)) (λ c e. omega (arith, long, catalog_takes bytes c [] (whole_is (catalog_at bytes) c e)))
+
+pub too_long_for_record : (magic : Magic) (bytes : List ℕ) → max_catalog < length bytes → catalog_of_record magic bytes ≡ None
+unfolding catalog_of_record
+too_long_for_record magic bytes long =
+    ap (λ (o : Option Catalog). o >>= λ c. where_true (same_magic magic (magic_of c)) c) (too_long_for_catalog bytes long)

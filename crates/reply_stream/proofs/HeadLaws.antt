@@ -4,6 +4,7 @@ use Rattle.std.specs.Prelude.{IfOk}
 use Rattle.std.specs.declared.alloc.AllocError.{AllocError}
 use Rattle.std.proofs.lemmas.Bool.{cases_Bool, ltb-false, le-ltb, lt-ltb, le-leb, lt-leb}
 use Rattle.std.proofs.lemmas.List.{take_at, drop_at, length-append, length-take-le}
+use Rattle.vo_spec.specs.declared.records.Magic.{Magic}
 use Rattle.vo_spec.specs.declared.records.Record.{Record}
 use Rattle.vo_spec.specs.declared.records.Catalog.{Catalog}
 use Rattle.vo_spec.specs.Bytes.{u32_of}
@@ -12,7 +13,7 @@ use Rattle.row_bytes.specs.declared.read_fault.ReadFault.{ReadFault}
 use Rattle.row_bytes.specs.declared.read_fault.ReadFault.TheVariants.{BadForm, Memory}
 use Rattle.row_bytes.specs.Reading.{bytes_at, u32_at}
 use Rattle.row_bytes.specs.Fields.{◌>>=◌, where_true, block_at, whole, ReadsAs}
-use Rattle.version_record.specs.Reading.{catalog_at}
+use Rattle.version_record.specs.Reading.{catalog_of_record}
 use Rattle.vo_format.specs.Reading.{signature_at, catalog_block_at}
 use Rattle.tree_stream.proofs.Binds.{bind_assoc, bind_none}
 use Rattle.reply_stream.specs.ReplyHeads.{ReplyHead}
@@ -24,7 +25,7 @@ use Rattle.reply_stream.specs.declared.head_state.CatalogField.{CatalogField}
 use Rattle.vo_spec.specs.Records.{max_catalog}
 use Rattle.reply_stream.specs.Heads.{head, front_at, signed_head_at, head_at, catalog_of_size, signature_of_size, rest_of_head, Yields}
 use Rattle.reply_stream.specs.HeadFields.{field_size}
-use Rattle.reply_stream.proofs.CatalogSizes.{too_long_for_catalog}
+use Rattle.reply_stream.proofs.CatalogSizes.{too_long_for_record}
 use Rattle.reply_stream.proofs.Locals.{front_local, bytes_local, token_read, too_few}
 
 -- Tokens.
@@ -121,22 +122,22 @@ signature_step field signed token rest len within same is =
 
 -- The catalog behind its length.
 
-catalog_read : (token rest : List ℕ) → length token ≡ 4 → catalog_block_at (token ++ rest) ≡ catalog_of_size (u32_of token) rest
+catalog_read : (magic : Magic) (token rest : List ℕ) → length token ≡ 4 → catalog_block_at magic (token ++ rest) ≡ catalog_of_size magic (u32_of token) rest
 unfolding catalog_block_at
-catalog_read token rest len =
-    ap (λ (o : Option (List ℕ × List ℕ)). o >>= λ block. whole (catalog_at block.0) >>= λ c. let r : Option (Catalog × List ℕ) = Some (c, block.1) in r) (block_read token rest len)
+catalog_read magic token rest len =
+    ap (λ (o : Option (List ℕ × List ℕ)). o >>= λ block. catalog_of_record magic block.0 >>= λ c. let r : Option (Catalog × List ℕ) = Some (c, block.1) in r) (block_read token rest len)
 
 abbrev with_catalog : SignedRecord → Catalog × List ℕ → Option (ReplyHead × List ℕ)
 with_catalog signed c = Some (head signed.rec signed.signature c.0, c.1)
 
-no_catalog_so_long : (n : ℕ) (bytes : List ℕ) → max_catalog < n → catalog_of_size n bytes ≡ None
+no_catalog_so_long : (magic : Magic) (n : ℕ) (bytes : List ℕ) → max_catalog < n → catalog_of_size magic n bytes ≡ None
 unfolding bytes_at
-no_catalog_so_long n bytes long =
+no_catalog_so_long magic n bytes long =
     elim (cases_Bool (ltb (length bytes) n)) [
       | inl t ↦ rw t refl
       | inr f ↦
           let len : length (take n bytes) ≡ n = length-take-le n bytes (ltb-false (length bytes) n f) in
-          let none : whole (catalog_at (take n bytes)) ≡ None = too_long_for_catalog (take n bytes) (omega (arith, len, long)) in
+          let none : catalog_of_record magic (take n bytes) ≡ None = too_long_for_record magic (take n bytes) (omega (arith, len, long)) in
           rw (f, none) refl
     ]
 
@@ -144,42 +145,46 @@ pub catalog_length_step : (signed : SignedRecord) (field : CatalogField) (token 
     → rest_of_head (CatalogBytes field) rest ≡ rest_of_head (CatalogLength signed) (token ++ rest)
 unfolding rest_of_head
 catalog_length_step signed field token rest len same size =
-    ap (λ (s : SignedRecord). catalog_of_size field.size rest >>= with_catalog s) same
-    ∙ ap (λ (n : ℕ). catalog_of_size n rest >>= with_catalog signed) size
-    ∙ sym (ap (λ (o : Option (Catalog × List ℕ)). o >>= with_catalog signed) (catalog_read token rest len))
+    ap (λ (s : SignedRecord). catalog_of_size s.rec.magic field.size rest >>= with_catalog s) same
+    ∙ ap (λ (n : ℕ). catalog_of_size signed.rec.magic n rest >>= with_catalog signed) size
+    ∙ sym (ap (λ (o : Option (Catalog × List ℕ)). o >>= with_catalog signed) (catalog_read signed.rec.magic token rest len))
 
 pub no_catalog_length : (signed : SignedRecord) (token rest : List ℕ) → length token ≡ 4 → max_catalog < u32_of token → rest_of_head Invalid rest ≡ rest_of_head (CatalogLength signed) (token ++ rest)
 unfolding rest_of_head
 no_catalog_length signed token rest len long =
-    sym (ap (λ (o : Option (Catalog × List ℕ)). o >>= with_catalog signed) (catalog_read token rest len ∙ no_catalog_so_long (u32_of token) rest long))
+    sym (ap (λ (o : Option (Catalog × List ℕ)). o >>= with_catalog signed) (catalog_read signed.rec.magic token rest len ∙ no_catalog_so_long signed.rec.magic (u32_of token) rest long))
 
-catalog_whole : (n : ℕ) (token rest : List ℕ) → length token ≡ n → catalog_of_size n (token ++ rest) ≡ (whole (catalog_at token) >>= λ c. Some (c, rest))
-catalog_whole n token rest len =
-    ap (λ (o : Option (List ℕ × List ℕ)). o >>= λ block. whole (catalog_at block.0) >>= λ c. let r : Option (Catalog × List ℕ) = Some (c, block.1) in r) (exactly_read n token rest len)
+catalog_whole : (magic : Magic) (n : ℕ) (token rest : List ℕ) → length token ≡ n → catalog_of_size magic n (token ++ rest) ≡ (catalog_of_record magic token >>= λ c. Some (c, rest))
+catalog_whole magic n token rest len =
+    ap (λ (o : Option (List ℕ × List ℕ)). o >>= λ block. catalog_of_record magic block.0 >>= λ c. let r : Option (Catalog × List ℕ) = Some (c, block.1) in r) (exactly_read n token rest len)
 
-pub catalog_step : (field : CatalogField) (found : ReplyHead) (token rest : List ℕ) (c : Catalog) → length token ≡ field.size → whole (catalog_at token) ≡ Some c
+-- what reading the catalog's bytes gives, for the record before them
+abbrev pub catalog_in : CatalogField → List ℕ → Option Catalog
+catalog_in field token = catalog_of_record field.signed.rec.magic token
+
+pub catalog_step : (field : CatalogField) (found : ReplyHead) (token rest : List ℕ) (c : Catalog) → length token ≡ field.size → catalog_in field token ≡ Some c
     → found ≡ head field.signed.rec field.signed.signature c → rest_of_head (Complete found) rest ≡ rest_of_head (CatalogBytes field) (token ++ rest)
 unfolding rest_of_head
 catalog_step field found token rest c len read is =
     ap (λ (h : ReplyHead). let r : Option (ReplyHead × List ℕ) = Some (h, rest) in r) is
     ∙ sym (ap (λ (o : Option (Catalog × List ℕ)). o >>= with_catalog field.signed)
-    (catalog_whole field.size token rest len ∙ ap (λ (o : Option Catalog). o >>= λ c. let r : Option (Catalog × List ℕ) = Some (c, rest) in r) read))
+    (catalog_whole field.signed.rec.magic field.size token rest len ∙ ap (λ (o : Option Catalog). o >>= λ c. let r : Option (Catalog × List ℕ) = Some (c, rest) in r) read))
 
-pub no_catalog : (field : CatalogField) (token rest : List ℕ) → length token ≡ field.size → whole (catalog_at token) ≡ None → rest_of_head Invalid rest ≡ rest_of_head (CatalogBytes field) (token ++ rest)
+pub no_catalog : (field : CatalogField) (token rest : List ℕ) → length token ≡ field.size → catalog_in field token ≡ None → rest_of_head Invalid rest ≡ rest_of_head (CatalogBytes field) (token ++ rest)
 unfolding rest_of_head
 no_catalog field token rest len read =
     sym (ap (λ (o : Option (Catalog × List ℕ)). o >>= with_catalog field.signed)
-    (catalog_whole field.size token rest len ∙ ap (λ (o : Option Catalog). o >>= λ c. let r : Option (Catalog × List ℕ) = Some (c, rest) in r) read))
+    (catalog_whole field.signed.rec.magic field.size token rest len ∙ ap (λ (o : Option Catalog). o >>= λ c. let r : Option (Catalog × List ℕ) = Some (c, rest) in r) read))
 
 none_read : {A : Type 0} (fault : ReadFault) (read : Option A) → fault ≡ BadForm → ReadsAs (λ (x : A). x) (Err fault) read → read ≡ None
 none_read BadForm read is none = none
 none_read Memory read is none = absurd cc
 
-pub bad_catalog : (r : Result HeadState AllocError) (field : CatalogField) (fault : ReadFault) (token : List ℕ) → length token ≡ field.size → ReadsAs (λ (c : Catalog). c) (Err fault) (whole (catalog_at token))
+pub bad_catalog : (r : Result HeadState AllocError) (field : CatalogField) (fault : ReadFault) (token : List ℕ) → length token ≡ field.size → ReadsAs (λ (c : Catalog). c) (Err fault) (catalog_in field token)
     → IfOk r (λ state. (fault ≡ BadForm) × (state ≡ Invalid)) → IfOk r (λ state. Yields state (λ rest. rest_of_head (CatalogBytes field) (token ++ rest)))
 bad_catalog (Err e) field fault token len read is = tt
 bad_catalog (Ok state) field fault token len read is = record {
-  each = λ rest. ap (λ (s : HeadState). rest_of_head s rest) is.1 ∙ no_catalog field token rest len (none_read fault (whole (catalog_at token)) is.0 read);
+  each = λ rest. ap (λ (s : HeadState). rest_of_head s rest) is.1 ∙ no_catalog field token rest len (none_read fault (catalog_in field token) is.0 read);
 }
 
 -- Less than a field.
@@ -194,8 +199,8 @@ short_none (SignatureLength rec) bytes size is few = ap (λ (o : Option (List �
 short_none (Signature field) bytes size is few =
     ap (λ (o : Option (List ℕ × List ℕ)). (o >>= λ s. where_true (leb (length s.0) max_signature) s) >>= λ s. signed_head_at field.rec s.0 s.1) (too_few (bytes_at field.size) field.size bytes (bytes_local field.size) (omega (arith, few, some_size field.size size is)))
 short_none (CatalogLength signed) bytes size is few =
-    ap (λ (o : Option (List ℕ × List ℕ)). (o >>= λ block. whole (catalog_at block.0) >>= λ c. let r : Option (Catalog × List ℕ) = Some (c, block.1) in r) >>= with_catalog signed) (no_block bytes (omega (arith, few, some_size 4 size is)))
+    ap (λ (o : Option (List ℕ × List ℕ)). (o >>= λ block. catalog_of_record signed.rec.magic block.0 >>= λ c. let r : Option (Catalog × List ℕ) = Some (c, block.1) in r) >>= with_catalog signed) (no_block bytes (omega (arith, few, some_size 4 size is)))
 short_none (CatalogBytes field) bytes size is few =
-    ap (λ (o : Option (List ℕ × List ℕ)). (o >>= λ block. whole (catalog_at block.0) >>= λ c. let r : Option (Catalog × List ℕ) = Some (c, block.1) in r) >>= with_catalog field.signed) (too_few (bytes_at field.size) field.size bytes (bytes_local field.size) (omega (arith, few, some_size field.size size is)))
+    ap (λ (o : Option (List ℕ × List ℕ)). (o >>= λ block. catalog_of_record field.signed.rec.magic block.0 >>= λ c. let r : Option (Catalog × List ℕ) = Some (c, block.1) in r) >>= with_catalog field.signed) (too_few (bytes_at field.size) field.size bytes (bytes_local field.size) (omega (arith, few, some_size field.size size is)))
 short_none (Complete found) bytes size is few = absurd cc
 short_none Invalid bytes size is few = refl

@@ -5,7 +5,8 @@ use Rattle.std.proofs.Math.Nat.{min-eq_left}
 use Rattle.std.proofs.lemmas.List.{length-append}
 use Rattle.vo_spec.specs.declared.records.Record.{Record}
 use Rattle.vo_spec.specs.Bytes.{u32_bytes, u64_bytes}
-use Rattle.vo_spec.specs.Records.{FitsRecord, record_bytes}
+use Rattle.vo_spec.specs.Records.{FitsRecord, magic_bytes, record_bytes}
+use Rattle.version_record.proofs.RecordLaws.{magic_long}
 use Rattle.tree_stream.proofs.HeldLaws.{length-u64}
 use Rattle.reply_stream.specs.ReplyHeads.{ReplyHead}
 use Rattle.reply_stream.specs.declared.head_state.HeadState.{HeadState}
@@ -19,7 +20,18 @@ use Rattle.reply_stream.proofs.HeadFronts.{u32_size}
 
 front_length : (rec : Record) → FitsRecord rec → length (front_bytes rec) ≡ 64
 unfolding record_bytes
-front_length rec fits = omega (arith, fits.id, fits.catalog, length-u64 rec.version, length-append (rec.id ++ u64_bytes rec.version) rec.catalog, length-append rec.id (u64_bytes rec.version))
+front_length rec fits =
+    let magic : List ℕ = magic_bytes rec.magic in
+    omega (
+      arith,
+      magic_long rec.magic,
+      fits.id,
+      fits.catalog,
+      length-u64 rec.version,
+      length-append (magic ++ rec.id ++ u64_bytes rec.version) rec.catalog,
+      length-append (magic ++ rec.id) (u64_bytes rec.version),
+      length-append magic rec.id,
+    )
 
 -- what was taken is counted, where a field is to come
 taken_is : (state : HeadState) (taken : List ℕ) (size : ℕ) → field_size state ≡ Some size → TookFields state taken → taken_count state ≡ length taken

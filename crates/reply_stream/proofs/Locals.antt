@@ -8,7 +8,7 @@ use Rattle.row_bytes.specs.Reading.{bytes_at, u64_at}
 use Rattle.row_bytes.specs.Fields.{◌>>=◌, where_true, word_at, whole}
 use Rattle.batch_format.specs.BatchReading.{Reader}
 use Rattle.batch_format.proofs.ReaderLaws.{bound, some_is, tested, no_some}
-use Rattle.version_record.specs.Reading.{record_at}
+use Rattle.version_record.specs.Reading.{magic_at, magic_of_word, record_at}
 use Rattle.tree_stream.proofs.Binds.{bind_assoc, bind_same, bind_at}
 use Rattle.reply_stream.specs.Heads.{front_at}
 
@@ -95,10 +95,19 @@ nothing_local {A} x = record {
       omega (arith, ap (λ (p : A × List ℕ). length p.1) (some_is made (y, r) e));
 }
 
+-- what is made of the bytes, or nothing
+option_local : {A : Type 0} (o : Option A) → IsLocal (λ bytes. o >>= λ x. let made : Option (A × List ℕ) = Some (x, bytes) in made) 0
+option_local None = record { each = λ a b le. refl; rest = λ a x r e. absurd (no_some (x, r) e) }
+option_local (Some x) = nothing_local x
+
+magic_local : IsLocal magic_at 4
+unfolding magic_at
+magic_local = then_local (bytes_at 4) _ 4 0 (bytes_local 4) (λ word. option_local (magic_of_word word))
+
 record_local : IsLocal record_at 60
 unfolding record_at
 record_local =
-    then_local (word_at (codes "VREC")) _ 4 56 (word_local (codes "VREC"))
+    then_local magic_at _ 4 56 magic_local
     (λ magic. then_local (bytes_at 16) _ 16 40 (bytes_local 16)
     (λ id. then_local u64_at _ 8 32 u64_local
     (λ version. then_local (bytes_at 32) _ 32 0 (bytes_local 32) (λ catalog. nothing_local _))))

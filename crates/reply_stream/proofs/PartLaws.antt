@@ -44,11 +44,11 @@ head_first : (bytes : List ℕ) → reply_at bytes ≡ (head_at bytes >>= behind
 unfolding reply_at head_at front_at
 head_first bytes =
     let of_catalog : Record → List ℕ → Catalog × List ℕ → Option (ReplyHead × List ℕ) = λ rec s c. Some (head rec s c.0, c.1) in
-    let of_signature : Record → List ℕ × List ℕ → Option (ReplyHead × List ℕ) = λ rec s. catalog_block_at s.1 >>= of_catalog rec s.0 in
+    let of_signature : Record → List ℕ × List ℕ → Option (ReplyHead × List ℕ) = λ rec s. catalog_block_at rec.magic s.1 >>= of_catalog rec s.0 in
     let of_record : Record × List ℕ → Option (ReplyHead × List ℕ) = λ rec. signature_at rec.1 >>= of_signature rec.0 in
     let record_behind : List ℕ × List ℕ → Option (Record × List ℕ) = λ magic. record_at magic.1 in
     let all_catalog : Record → List ℕ → Catalog × List ℕ → Option (Reply × List ℕ) = λ rec s c. behind_head (head rec s c.0, c.1) in
-    let all_signature : Record → List ℕ × List ℕ → Option (Reply × List ℕ) = λ rec s. catalog_block_at s.1 >>= all_catalog rec s.0 in
+    let all_signature : Record → List ℕ × List ℕ → Option (Reply × List ℕ) = λ rec s. catalog_block_at rec.magic s.1 >>= all_catalog rec s.0 in
     let all_record : Record × List ℕ → Option (Reply × List ℕ) = λ rec. signature_at rec.1 >>= all_signature rec.0 in
     sym (bind_assoc (word_at (codes "VOR1") bytes >>= record_behind) of_record behind_head
     ∙ bind_assoc (word_at (codes "VOR1") bytes) record_behind (λ rec. of_record rec >>= behind_head)
@@ -56,7 +56,7 @@ head_first bytes =
     (λ magic. bind_same (record_behind magic) (λ rec. of_record rec >>= behind_head) all_record
     (λ rec. bind_assoc (signature_at rec.1) (of_signature rec.0) behind_head
     ∙ bind_same (signature_at rec.1) (λ s. of_signature rec.0 s >>= behind_head) (all_signature rec.0)
-    (λ s. bind_assoc (catalog_block_at s.1) (of_catalog rec.0 s.0) behind_head))))
+    (λ s. bind_assoc (catalog_block_at rec.0.magic s.1) (of_catalog rec.0 s.0) behind_head))))
 
 -- what is left is whole, or isn't, whatever is made of what was read
 whole_parts : (plan : ReplyHead → Target) (h : ReplyHead) (o : Option Trees)

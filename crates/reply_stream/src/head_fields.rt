@@ -12,7 +12,7 @@ use crate::head_state::{CatalogField, HeadState, SignatureField, SignedRecord};
 use row_bytes::{Cursor, ReadFault};
 use std::alloc::{AllocError, Global};
 use std::mem;
-use version_record::{catalog_in, take_record};
+use version_record::{catalog_of_record, take_record};
 use vo_spec::{List, MAX_CATALOG, MAX_SIGNATURE, Record};
 
 /// How many bytes the next field has, if one comes.
@@ -137,7 +137,7 @@ fn take_catalog(alloc: Global, field: CatalogField, token: &[u8]) -> Result<Head
 {
     let CatalogField { signed, size, .. } = field;
     let SignedRecord { rec, signature } = signed;
-    match catalog_in(alloc, token) {
+    match catalog_of_record(alloc, rec.magic, token) {
         Ok(catalog) => Ok(HeadState::Complete(Head {
             rec,
             signature,

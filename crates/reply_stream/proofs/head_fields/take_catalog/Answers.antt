@@ -1,12 +1,12 @@
-use Rattle.std.proofs.Common.{List, ℕ, length, Ok, refl, sym, ap, ◌∙◌, arith}
-use Rattle.version_record.proofs.CatalogLaws.{is_catalog}
+use Rattle.std.proofs.Common.{List, ℕ, length, refl, sym, ap, ◌∙◌, arith}
+use Rattle.version_record.proofs.CatalogLaws.{of_record_found}
 use Rattle.reply_stream.proofs.HeadLaws.{bad_catalog, catalog_step}
 use Rattle.reply_stream.proofs.head_fields.take_catalog.Goals as goal
 
 pub invariant_of-result : goal.invariant_of-result
 invariant_of-result c =
-    let is = is_catalog c.args.token.now (Ok c.in-Ok.catalog) (λ i. omega (arith, c.type_inv.token i)) c.in-Ok.ensures in
-    (is.fits, sym c.requires ∙ ap (λ (t : List ℕ). length t) is.encoded)
+    let is = of_record_found c.args.field.signed.rec.magic c.args.token.now c.in-Ok.catalog (λ i. omega (arith, c.type_inv.token i)) c.in-Ok.ensures in
+    (is.0.fits, sym c.requires ∙ ap (λ (t : List ℕ). length t) is.0.encoded)
 
 pub returns-in-Ok-clause-yields : goal.returns-in-Ok-clause-yields
 returns-in-Ok-clause-yields c = record {
