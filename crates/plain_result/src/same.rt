@@ -24,6 +24,7 @@ impl Same for Name {
 impl Same for Value {
     fn same(&self, other: &Value) -> bool {
         match (self, other) {
+            (Value::Null, Value::Null) => true,
             (Value::Int(a), Value::Int(b)) => a == b,
             (Value::Text(a), Value::Text(b)) => a.same(b),
             (Value::Bool(a), Value::Bool(b)) => a == b,
