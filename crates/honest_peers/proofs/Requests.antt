@@ -13,10 +13,11 @@ use Rattle.vo_spec.specs.declared.tables.CommandFault.{CommandFault}
 use Rattle.vo_spec.specs.Batches.{FitsBatch, batch_bytes, command_bytes}
 use Rattle.vo_spec.specs.Bytes.{block, u16_bytes, u32_bytes, u64_bytes}
 use Rattle.vo_spec.specs.Journals.{FitsEntry, max_proofs, max_signature}
-use Rattle.vo_spec.specs.Records.{FitsRecord, magic, record_bytes}
+use Rattle.vo_spec.specs.Records.{FitsRecord, record_bytes}
 use Rattle.row_bytes.proofs.ValueLaws.{u64_length}
 use Rattle.batch_format.proofs.BatchLaws.{batch_again}
 use Rattle.owner_state.proofs.BlockLaws.{u32_length}
+use Rattle.owner_state.proofs.EntryLaws.{record_long}
 use Rattle.link_frames.specs.declared.awaits.Awaits.TheVariants as awaits
 use Rattle.link_frames.specs.declared.frame_kind.FrameKind.TheVariants as kind
 use Rattle.link_frames.specs.Frames.{is_length}
@@ -47,19 +48,6 @@ proposal_long commands fits =
           (flat_map command_bytes commands),
     )))
     (le-leb (length (batch_bytes commands)) 1048576 fits.size)
-
-pub record_long : (rec : Record) → FitsRecord rec → length (record_bytes rec) ≡ 60
-unfolding record_bytes
-record_long rec fits =
-    omega (
-      arith,
-      length-append (magic rec ++ rec.id ++ u64_bytes rec.version) rec.catalog,
-      length-append (magic rec ++ rec.id) (u64_bytes rec.version),
-      length-append (magic rec) rec.id,
-      u64_length rec.version,
-      fits.id,
-      fits.catalog,
-    )
 
 install_long : (rec : Record) (signature : List ℕ) → FitsRecord rec
     → length signature ≤ max_signature

@@ -29,7 +29,8 @@ use Rattle.owner_session.specs.Endings.{Ending}
 use Rattle.owner_session.specs.Work.{catch_up, deliveries, standing, with_place}
 use Rattle.vo_commands.specs.Committing.{entry_forms, place_beside, place_by, place_if_read, place_of_record}
 use Rattle.honest_peers.specs.Owning.{IsStoreAfter}
-use Rattle.honest_peers.proofs.Requests.{behind_status, record_long, status_reply}
+use Rattle.honest_peers.proofs.Requests.{behind_status, status_reply}
+use Rattle.owner_state.proofs.EntryLaws.{record_long}
 use Rattle.workload_run.proofs.StoreSteps.{StoreLaws}
 use Rattle.vo_store.proofs.InstallLaws.{same_now}
 use Rattle.honest_peers.proofs.CatchingUp.{GoesOn, IsAt, deliver_first, deliver_rest, version_at}

@@ -4,9 +4,10 @@ use Rattle.std.proofs.lemmas.Bool.{eqb-true}
 use Rattle.std.proofs.lemmas.List.{length-append}
 use Rattle.vo_spec.specs.declared.tables.Command.{Command}
 use Rattle.vo_spec.specs.declared.records.Entry.{Entry}
+use Rattle.vo_spec.specs.declared.records.Record.{Record}
 use Rattle.vo_spec.specs.Bytes.{IsBytes, block, u32_bytes, u64_bytes}
 use Rattle.vo_spec.specs.Batches.{FitsBatch, batch_bytes}
-use Rattle.vo_spec.specs.Records.{FitsRecord, record_bytes, magic}
+use Rattle.vo_spec.specs.Records.{FitsRecord, record_bytes, magic_bytes}
 use Rattle.vo_spec.specs.Journals.{FitsEntry, entry_bytes, slot, max_proofs, max_signature}
 use Rattle.row_bytes.proofs.Readers.{IsBytes-rest, chosen}
 use Rattle.row_bytes.proofs.ValueLaws.{u64_length}
@@ -14,7 +15,7 @@ use Rattle.batch_format.specs.BatchReading.{batch_of, one, two, three, four}
 use Rattle.batch_format.proofs.ReaderLaws.{Took, IsReader, took_then, no_some, next_found, next_again}
 use Rattle.batch_format.proofs.BatchLaws.{one_found, batch_found, batch_again}
 use Rattle.version_record.specs.Reading.{record_at}
-use Rattle.version_record.proofs.RecordLaws.{words_read, records_read, whole_is}
+use Rattle.version_record.proofs.RecordLaws.{magic_long, words_read, records_read, whole_is}
 use Rattle.owner_state.specs.Reading.{within, limited_at, batch_at, entry_with, entry_at, entry_of, slot_at}
 use Rattle.owner_state.proofs.BlockLaws.{IsShort, HasAtMost, IsWholeReader, u32_length, limited_read, within_read}
 
@@ -82,15 +83,16 @@ entry_again x rest fits =
 block_length : (text : List ℕ) → length (block text) ≡ 4 + length text
 block_length text = length-append (u32_bytes (length text)) text ∙ ap (λ n. n + length text) (u32_length (length text))
 
-record_length : (x : Entry) → FitsRecord x.rec → length (record_bytes x.rec) ≡ 60
+pub record_long : (rec : Record) → FitsRecord rec → length (record_bytes rec) ≡ 60
 unfolding record_bytes
-record_length x fits =
+record_long rec fits =
     omega (
       arith,
-      length-append (magic x.rec ++ x.rec.id ++ u64_bytes x.rec.version) x.rec.catalog,
-      length-append (magic x.rec ++ x.rec.id) (u64_bytes x.rec.version),
-      length-append (magic x.rec) x.rec.id,
-      u64_length x.rec.version,
+      length-append (magic_bytes rec.magic ++ rec.id ++ u64_bytes rec.version) rec.catalog,
+      length-append (magic_bytes rec.magic ++ rec.id) (u64_bytes rec.version),
+      length-append (magic_bytes rec.magic) rec.id,
+      magic_long rec.magic,
+      u64_length rec.version,
       fits.id,
       fits.catalog,
     )
@@ -108,7 +110,7 @@ entry_long x fits =
       length-append word (batch_block cs),
       block_length (batch_bytes cs),
       block_length x.proofs,
-      record_length x fits.rec,
+      record_long x.rec fits.rec,
       block_length x.signature,
     )
 

@@ -52,11 +52,6 @@ abbrev pub IsTooLargeAt : List ℕ → List ℕ → ℕ → Query → ℕ → Ty
 IsTooLargeAt key journal version q size = (bytes : List ℕ)
     × HasReplyAt key journal version q bytes × (size ≡ length bytes) × (max_reply < size)
 
--- each record begins as the catalog of its version says
-abbrev pub HaveMagic : List Entry → Type 0
-HaveMagic es = (version : ℕ) (e : Entry) → slice_get es version ≡ Some e
-    → e.rec.magic ≡ magic_of (catalog_of (trees_at version es))
-
 -- A store of the key loads the journal, and keeps from the oldest of these versions to the newest;
 -- this one is older or newer.
 abbrev pub IsNoVersion : List ℕ → List ℕ → ℕ → ℕ → ℕ → Type 0
