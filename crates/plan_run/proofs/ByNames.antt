@@ -1,19 +1,19 @@
 -- What a plan of a query gives is what the query gives by names.
-use Rattle.std.proofs.Common.{◌≡◌, List, [], ◌∷◌, ◌++◌, Option, Some, None, map, refl, sym, ap, ◌∙◌}
+use Rattle.std.proofs.Common.{◌≡◌, Bool, true, false, cond, List, [], ◌∷◌, ◌++◌, Option, Some, None, map, refl, sym, ap, ◌∙◌}
 use Rattle.std.specs.Prelude.{filter, flat_map, option_map, option_to_list}
 use Rattle.vo_spec.specs.declared.needs.Need.{Need}
 use Rattle.vo_spec.specs.declared.queries.Join.{Join}
 use Rattle.vo_spec.specs.Conditions.{Query}
 use Rattle.vo_spec.specs.Results.{BoundSource, schema_at, RowView, answer_rows}
 use Rattle.vo_spec.specs.Trees.{RowTree}
-use Rattle.vo_spec.specs.Needs.{seen_row_views, uncut_need, right_need, right_needs, needs, seen_lefts, seen_rights, meets_left as meets_by_names, tree_at, right_tree}
+use Rattle.vo_spec.specs.Needs.{seen_row_views, uncut_need, has_join_value, right_need, right_needs, needs, seen_lefts, seen_rights, meets_left as meets_by_names, tree_at, right_tree}
 use Rattle.vo_laws.proofs.AnswerLaws.{answer_rows_are}
 use Rattle.query_plan.specs.BoundQueries.{bound_join, bound_query}
 use Rattle.query_plan.specs.Plans.{QueryPlan, plan_of, right_need_of, meets_left}
-use Rattle.query_plan.proofs.MeaningLaws.{same_filter, uncut_need_same, right_need_same, meets_same}
+use Rattle.query_plan.proofs.MeaningLaws.{same_filter, uncut_need_same, value_same, right_need_same, meets_same}
 use Rattle.query_plan.specs.Answers.{plan_rows}
 use Rattle.query_plan.proofs.AnswerLaws.{rows_kept}
-use Rattle.plan_run.specs.Running.{group_needs, lefts_seen, rights_by, rights_seen, needs_of, run_rows, run_needs}
+use Rattle.plan_run.specs.Running.{group_needs, lefts_seen, rights_by, rights_seen, needs_by as needs_at, needs_of, run_rows, run_needs}
 
 module _ (ss : List BoundSource) (q : Query) where
   abbrev p : QueryPlan
@@ -35,13 +35,24 @@ module _ (ss : List BoundSource) (q : Query) where
       ∙ rows_kept ss q (seen_row_views (schema_at ss 0) (uncut_need ss q) (tree_at trees 0)) (rights_seen p (right_tree ss trees)) (seen_rights ss q trees) (rights_same q.join (right_tree ss trees))
       ∙ sym (answer_rows_are ss q (seen_lefts ss q trees) (seen_rights ss q trees))
 
-  map_same : {A B : Type 0} (f g : A → B) → ((x : A) → f x ≡ g x) → (xs : List A) → map f xs ≡ map g xs
-  map_same f g e [] = refl
-  map_same f g e (x ∷ xs) = rw (e x, map_same f g e xs) refl
+  -- of left rows, those that have a value for ON
+  needs_joined : (j : Join) (lefts : List RowView) → flat_map (needs_at p (bound_join ss j)) lefts ≡ map (right_need ss q j) (filter (has_join_value ss j) lefts)
+  needs_joined j [] = refl
+  needs_joined j (left ∷ lefts) =
+      ap (λ b. cond b (right_need_of p (bound_join ss j) left ∷ []) [] ++ flat_map (needs_at p (bound_join ss j)) lefts) (value_same ss j left)
+      ∙ ap (λ (n : Need). cond (has_join_value ss j left) (n ∷ []) [] ++ flat_map (needs_at p (bound_join ss j)) lefts) (right_need_same ss q j left)
+      ∙ ap (λ (ns : List Need). cond (has_join_value ss j left) (right_need ss q j left ∷ []) [] ++ ns) (needs_joined j lefts)
+      ∙ step (has_join_value ss j left)
+    where
+      step : (b : Bool) → cond b (right_need ss q j left ∷ []) [] ++ map (right_need ss q j) (filter (has_join_value ss j) lefts)
+          ≡ map (right_need ss q j) (cond b (left ∷ filter (has_join_value ss j) lefts) (filter (has_join_value ss j) lefts))
+      step true = refl
+      step false = refl
 
-  needs_by : (j : Option Join) (lefts : List RowView) → flat_map (λ on. map (right_need_of p on) lefts) (option_to_list (option_map (bound_join ss) j)) ≡ flat_map (λ k. map (right_need ss q k) lefts) (option_to_list j)
+  needs_by : (j : Option Join) (lefts : List RowView) → flat_map (λ on. flat_map (needs_at p on) lefts) (option_to_list (option_map (bound_join ss) j))
+      ≡ flat_map (λ k. map (right_need ss q k) (filter (has_join_value ss k) lefts)) (option_to_list j)
   needs_by None lefts = refl
-  needs_by (Some j) lefts = ap (λ (ns : List Need). ns ++ []) (map_same (right_need_of p (bound_join ss j)) (right_need ss q j) (right_need_same ss q j) lefts)
+  needs_by (Some j) lefts = ap (λ (ns : List Need). ns ++ []) (needs_joined j lefts)
 
   pub right_needs_same : (tree : RowTree) → needs_of p (lefts_seen p tree) ≡ right_needs ss q (tree ∷ [])
   right_needs_same tree = ap (needs_of p) (lefts_same tree) ∙ needs_by q.join (seen_lefts ss q (tree ∷ []))

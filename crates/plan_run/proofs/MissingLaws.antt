@@ -1,5 +1,5 @@
 -- A tree that doesn't show what a need asks for misses something.
-use Rattle.std.proofs.Common.{◌≡◌, ℕ, Bool, true, false, cond, List, [], ◌∷◌, Option, Some, None, length, map, inl, inr, refl, sym, ap, ◌∙◌, subst, arith}
+use Rattle.std.proofs.Common.{◌≡◌, ℕ, Bool, true, false, cond, List, [], ◌∷◌, Option, Some, None, length, inl, inr, refl, sym, ap, ◌∙◌, subst, arith}
 use Rattle.std.specs.Prelude.{◌==◌, ◌||◌, ◌⊎◌, zip, flat_map, is_none, option_to_list}
 use Rattle.std.specs.List.{list_any}
 use Rattle.std.proofs.lemmas.Bool.{both_ways, or_left, or_right}
@@ -11,8 +11,8 @@ use Rattle.vo_spec.specs.Pruning.{is_missing}
 use Rattle.vo_spec.specs.Needs.{same_table, tables_used, tree_at, right_tree}
 use Rattle.vo_laws.proofs.ListLaws.{IsIn}
 use Rattle.vo_laws.proofs.ScanLaws.{Shows, complete}
-use Rattle.query_plan.specs.Plans.{QueryPlan, right_need_of}
-use Rattle.plan_run.specs.Running.{is_unseen, lefts_seen, needs_of, stops, is_any_missing}
+use Rattle.query_plan.specs.Plans.{QueryPlan}
+use Rattle.plan_run.specs.Running.{is_unseen, lefts_seen, needs_by as needs_at, needs_of, stops, is_any_missing}
 
 shown_seen : {A : Type 0} (o : Option A) → Shows o → is_none o ≡ false
 shown_seen None s = absurd s
@@ -72,6 +72,6 @@ stopped_missing p ts e paired u =
         right_by (bound_source_at p.query.bound_sources 0).table (bound_source_at p.query.bound_sources 1).table p.uncut_need (needs_of p (lefts_seen p (tree_at ts 0))) (length p.query.bound_sources == 1 || same_table p.query.bound_sources) ts e
         (subst (λ b. list_any (is_unseen (cond (b || same_table p.query.bound_sources) (tree_at ts 0) (tree_at ts 1))) (needs_of p (lefts_seen p (tree_at ts 0))) ≡ true) (sym (paired on is)) r)
 
-    step : (o : Option (ColumnPlace × ColumnPlace)) → p.query.join ≡ o → list_any (is_unseen (right_tree p.query.bound_sources ts)) (flat_map (λ on. map (right_need_of p on) (lefts_seen p (tree_at ts 0))) (option_to_list o)) ≡ true → is_any_missing p ts ≡ true
+    step : (o : Option (ColumnPlace × ColumnPlace)) → p.query.join ≡ o → list_any (is_unseen (right_tree p.query.bound_sources ts)) (flat_map (λ on. flat_map (needs_at p on) (lefts_seen p (tree_at ts 0))) (option_to_list o)) ≡ true → is_any_missing p ts ≡ true
     step None is r = absurd (cc)
-    step (Some on) is r = joined on is (ap (λ o. list_any (is_unseen (right_tree p.query.bound_sources ts)) (flat_map (λ on. map (right_need_of p on) (lefts_seen p (tree_at ts 0))) (option_to_list o))) is ∙ r)
+    step (Some on) is r = joined on is (ap (λ o. list_any (is_unseen (right_tree p.query.bound_sources ts)) (flat_map (λ on. flat_map (needs_at p on) (lefts_seen p (tree_at ts 0))) (option_to_list o))) is ∙ r)

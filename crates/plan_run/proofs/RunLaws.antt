@@ -1,5 +1,5 @@
 -- From what left rows show to what a run gives.
-use Rattle.std.proofs.Common.{◌≡◌, ◌<◌, Bool, true, false, cond, List, [], ◌∷◌, Option, Some, None, Result, Ok, Err, length, get_or, map, sym, ap, ◌∙◌, append-nil, arith}
+use Rattle.std.proofs.Common.{◌≡◌, ◌<◌, Bool, true, false, cond, List, [], ◌∷◌, Option, Some, None, Result, Ok, Err, length, get_or, map, refl, sym, ap, ◌∙◌, append-nil, arith}
 use Rattle.std.specs.Prelude.{◌==◌, ◌||◌, filter, flat_map, is_none, option_to_list, unwrap_or}
 use Rattle.std.specs.List.{list_any}
 use Rattle.std.proofs.lemmas.Bool.{or_left, or_right, or_from}
@@ -15,33 +15,41 @@ use Rattle.vo_spec.specs.Needs.{seen_row_view, same_table, tables_used, tree_at,
 use Rattle.mb_tree.specs.declared.parts.PartTree.{PartTree}
 use Rattle.mb_tree.specs.View.{part_of}
 use Rattle.range_proof.specs.Finding.{FindsOrMissing}
-use Rattle.query_plan.specs.Plans.{QueryPlan, plan_need, right_need_of, meets_left}
+use Rattle.query_plan.specs.Plans.{QueryPlan, plan_need, has_join_value, meets_left}
 use Rattle.plan_run.specs.declared.ran.Ran.{Ran}
 use Rattle.plan_run.specs.declared.left_views.Shown.{Shown}
 use Rattle.query_plan.specs.Answers.{answer_at, pair_answers, left_answers, plan_rows}
-use Rattle.plan_run.specs.Running.{Runs, RanOf, Shows, ShowsPairs, group_needs, lefts_seen, rights_by, rights_seen, needs_of, is_unseen}
-use Rattle.query_plan.proofs.AnswerLaws.{flat_same}
-use Rattle.plan_run.proofs.AnswerSteps.{any_map}
+use Rattle.plan_run.specs.Running.{Runs, RanOf, Shows, ShowsPairs, group_needs, lefts_seen, rights_by, rights_asked, rights_seen, needs_by, needs_of, stops_at, is_unseen}
+use Rattle.query_plan.proofs.AnswerLaws.{flat_same, valueless_gives_none}
+use Rattle.plan_run.proofs.AnswerSteps.{any_flat_map}
 
 module _ (p : QueryPlan) (lefts : List RowView) (tree : RowTree) where
   -- by whether there is a join
   abbrev rows_by : Option (ColumnPlace × ColumnPlace) → List (List Value)
   rows_by o = flat_map (λ left. left_answers p.query p.late o (flat_map (λ on. rights_by p on tree left) (option_to_list o)) left) lefts
 
-  abbrev needs_by : Option (ColumnPlace × ColumnPlace) → List Need
-  needs_by o = flat_map (λ on. map (right_need_of p on) lefts) (option_to_list o)
+  abbrev needs_joined : Option (ColumnPlace × ColumnPlace) → List Need
+  needs_joined o = flat_map (λ on. flat_map (needs_by p on) lefts) (option_to_list o)
 
   module _ (on : ColumnPlace × ColumnPlace) (is : p.query.join ≡ Some on) where
-    needs_are : needs_of p lefts ≡ map (right_need_of p on) lefts
-    needs_are = ap needs_by is ∙ append-nil (map (right_need_of p on) lefts)
+    needs_are : needs_of p lefts ≡ flat_map (needs_by p on) lefts
+    needs_are = ap needs_joined is ∙ append-nil (flat_map (needs_by p on) lefts)
 
-    unseen_are : list_any (is_unseen tree) (needs_of p lefts) ≡ list_any (λ left. is_unseen tree (right_need_of p on left)) lefts
-    unseen_are = ap (list_any (is_unseen tree)) needs_are ∙ any_map (is_unseen tree) (right_need_of p on) lefts
+    unseen_are : list_any (is_unseen tree) (needs_of p lefts) ≡ list_any (stops_at p on tree) lefts
+    unseen_are = ap (list_any (is_unseen tree)) needs_are ∙ any_flat_map (is_unseen tree) (needs_by p on) lefts
 
-    rows_are : flat_map (λ left. pair_answers p.query p.late (rights_by p on tree left) left) lefts ≡ plan_rows p lefts (rights_seen p tree)
+    -- a left row without a value for ON is joined with none, whatever rows there are
+    asked_same : (left : RowView) → pair_answers p.query p.late (rights_asked p on tree left) left ≡ pair_answers p.query p.late (rights_by p on tree left) left
+    asked_same left = step (has_join_value on left) refl
+      where
+        step : (b : Bool) → has_join_value on left ≡ b → pair_answers p.query p.late (cond b (rights_by p on tree left) []) left ≡ pair_answers p.query p.late (rights_by p on tree left) left
+        step true e = refl
+        step false e = sym (valueless_gives_none p.query p.late on left is e (rights_by p on tree left))
+
+    rows_are : flat_map (λ left. pair_answers p.query p.late (rights_asked p on tree left) left) lefts ≡ plan_rows p lefts (rights_seen p tree)
     rows_are =
-        flat_same (λ left. pair_answers p.query p.late (rights_by p on tree left) left) (λ left. pair_answers p.query p.late (flat_map (λ k. rights_by p k tree left) (on ∷ [])) left)
-        (λ left. ap (λ rights. pair_answers p.query p.late rights left) (sym (append-nil (rights_by p on tree left)))) lefts
+        flat_same (λ left. pair_answers p.query p.late (rights_asked p on tree left) left) (λ left. pair_answers p.query p.late (flat_map (λ k. rights_by p k tree left) (on ∷ [])) left)
+        (λ left. asked_same left ∙ ap (λ rights. pair_answers p.query p.late rights left) (sym (append-nil (rights_by p on tree left)))) lefts
         ∙ ap rows_by (sym is)
 
     pub pairs_shown : (r : Result Shown ScanFault) → ShowsPairs r p on lefts tree → Shows r p lefts tree
@@ -51,7 +59,7 @@ module _ (p : QueryPlan) (lefts : List RowView) (tree : RowTree) where
 
   pub alone_shown : p.query.join ≡ None → (rows : List (List Value)) → rows ≡ flat_map (λ left. answer_at p.query p.late (place_value (left ∷ []))) lefts
       → (list_any (is_unseen tree) (needs_of p lefts) ≡ false) × (rows ≡ plan_rows p lefts (rights_seen p tree)) × ([] ≡ needs_of p lefts)
-  alone_shown is rows are = (ap (λ o. list_any (is_unseen tree) (needs_by o)) is, are ∙ ap rows_by (sym is), ap needs_by (sym is))
+  alone_shown is rows are = (ap (λ o. list_any (is_unseen tree) (needs_joined o)) is, are ∙ ap rows_by (sym is), ap needs_joined (sym is))
 
 -- a query uses a table
 pub used_some : (ss : List BoundSource) → 0 < length (tables_used ss)

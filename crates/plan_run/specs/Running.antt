@@ -1,5 +1,5 @@
 -- What running a plan over part trees gives, and what it answers where a scan stops.
-use Rattle.std.specs.Prelude.{◌≡◌, Bool, true, false, ◌||◌, List, [], ◌∷◌, ◌++◌, map, length, zip, filter, flat_map, is_none, is_some, option_to_list, Result, Ok, Err, IsTrue, ◌==◌, if◌then◌else◌}
+use Rattle.std.specs.Prelude.{◌≡◌, Bool, true, false, ◌||◌, List, [], ◌∷◌, ◌++◌, length, zip, filter, flat_map, is_none, is_some, option_to_list, Result, Ok, Err, IsTrue, ◌==◌, if◌then◌else◌}
 use Rattle.std.specs.List.{list_any}
 use Rattle.std.specs.Global.{Vec}
 use Rattle.vo_spec.specs.declared.trees.ScanFault.{ScanFault}
@@ -11,7 +11,7 @@ use Rattle.vo_spec.specs.Trees.{RowTree}
 use Rattle.vo_spec.specs.Scans.{seen}
 use Rattle.vo_spec.specs.Pruning.{is_missing}
 use Rattle.vo_spec.specs.Needs.{seen_row_views, tables_used, tree_at, right_tree}
-use Rattle.query_plan.specs.Plans.{QueryPlan, plan_need, right_need_of, meets_left}
+use Rattle.query_plan.specs.Plans.{QueryPlan, plan_need, has_join_value, right_need_of, meets_left}
 use Rattle.query_plan.specs.Answers.{pair_answers, plan_rows}
 use Rattle.plan_run.specs.declared.ran.Ran.{Ran}
 use Rattle.plan_run.specs.declared.left_views.Shown.{Shown}
@@ -33,9 +33,20 @@ rights_by p on tree left = seen_row_views (schema_at p.query.bound_sources 1)
 abbrev pub rights_seen : QueryPlan → RowTree → RowView → List RowView
 rights_seen p tree left = flat_map (λ on. rights_by p on tree left) (option_to_list p.query.join)
 
--- what left rows need of the right tree
+-- the same, but for a left row without a value for ON, for which no tree is asked
+abbrev pub rights_asked : QueryPlan → ColumnPlace × ColumnPlace → RowTree → RowView → List RowView
+rights_asked p on tree left = if has_join_value on left then rights_by p on tree left else []
+
+-- what a left row needs of the right tree, nothing without a value for ON; and what left rows do
+abbrev pub needs_by : QueryPlan → ColumnPlace × ColumnPlace → RowView → List Need
+needs_by p on left = if has_join_value on left then right_need_of p on left ∷ [] else []
+
 abbrev pub needs_of : QueryPlan → List RowView → List Need
-needs_of p lefts = flat_map (λ on. map (right_need_of p on) lefts) (option_to_list p.query.join)
+needs_of p lefts = flat_map (λ on. flat_map (needs_by p on) lefts) (option_to_list p.query.join)
+
+-- the scan for what a left row needs stops
+abbrev pub stops_at : QueryPlan → ColumnPlace × ColumnPlace → RowTree → RowView → Bool
+stops_at p on tree left = list_any (is_unseen tree) (needs_by p on left)
 
 -- the needs of each tree, by those of the right rows
 abbrev pub group_needs : List BoundSource → Need → List Need → List (List Need)
@@ -80,23 +91,22 @@ Shows (Err Memory) p lefts tree = Unit {0}
 abbrev pub ShowsPairs : Result Shown ScanFault → QueryPlan → ColumnPlace × ColumnPlace
     → List RowView → RowTree → Type 0
 ShowsPairs (Ok shown) p on lefts tree =
-    (list_any (λ left. is_unseen tree (right_need_of p on left)) lefts ≡ false)
+    (list_any (stops_at p on tree) lefts ≡ false)
     × (shown.rows.items ≡ flat_map
-    (λ left. pair_answers p.query p.late (rights_by p on tree left) left) lefts)
-    × (shown.needs.items ≡ map (right_need_of p on) lefts)
-ShowsPairs (Err Missing) p on lefts tree =
-    list_any (λ left. is_unseen tree (right_need_of p on left)) lefts ≡ true
+    (λ left. pair_answers p.query p.late (rights_asked p on tree left) left) lefts)
+    × (shown.needs.items ≡ flat_map (needs_by p on) lefts)
+ShowsPairs (Err Missing) p on lefts tree = list_any (stops_at p on tree) lefts ≡ true
 ShowsPairs (Err Memory) p on lefts tree = Unit {0}
 
 -- one left row more
 abbrev pub AddsPairs : Result (Unit {0}) ScanFault → Shown → Shown → QueryPlan → ColumnPlace
     × ColumnPlace → RowView → RowTree → Type 0
 AddsPairs (Ok done) old new p on left tree =
-    (is_unseen tree (right_need_of p on left) ≡ false)
+    (stops_at p on tree left ≡ false)
     × (new.rows.items ≡ old.rows.items
-    ++ pair_answers p.query p.late (rights_by p on tree left) left)
-    × (new.needs.items ≡ old.needs.items ++ right_need_of p on left ∷ [])
-AddsPairs (Err Missing) old new p on left tree = is_unseen tree (right_need_of p on left) ≡ true
+    ++ pair_answers p.query p.late (rights_asked p on tree left) left)
+    × (new.needs.items ≡ old.needs.items ++ needs_by p on left)
+AddsPairs (Err Missing) old new p on left tree = stops_at p on tree left ≡ true
 AddsPairs (Err Memory) old new p on left tree = Unit {0}
 
 -- what was shown, with this need of the left tree

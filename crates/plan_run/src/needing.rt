@@ -1,17 +1,17 @@
 //! What a query needs of the right tree, by the left one alone.
-ghost use Rattle.std.specs.Prelude.{◌≡◌, map, filter, IfOk};
+ghost use Rattle.std.specs.Prelude.{◌≡◌, map, filter, flat_map, IfOk};
 ghost use Rattle.vo_spec.specs.Needs.{seen_row_view};
 ghost use Rattle.query_plan.specs.BoundViews.{join_seen};
-ghost use Rattle.query_plan.specs.Plans.{right_need_of, meets_left};
+ghost use Rattle.query_plan.specs.Plans.{meets_left};
 ghost use Rattle.query_plan.specs.PlanViews.{plan_seen};
 ghost use Rattle.plan_run.specs.RowViews.{row_view_seen};
-ghost use Rattle.plan_run.specs.Running.{FindsNeeds};
+ghost use Rattle.plan_run.specs.Running.{FindsNeeds, needs_by};
 
 use crate::left_tree::left_need;
 use crate::row_views::SeenRowView;
 use crate::seeing::lefts_of;
 use mb_tree::RowNode;
-use query_plan::{BoundJoin, Plan, right_need};
+use query_plan::{BoundJoin, Plan, has_join_value, right_need};
 use range_proof::scan;
 use std::alloc::{AllocError, Global};
 use vo_spec::{Need, ScanFault, SeenRow};
@@ -24,11 +24,14 @@ fn needs_of_lefts(
     lefts: &[SeenRowView<'_>],
 ) -> Result<Vec<Need>, AllocError>
     ensures { IfOk result (λ needs. needs.items
-        ≡ map (right_need_of (plan_seen plan.now) (join_seen join)) (map row_view_seen lefts.now)) }
+        ≡ flat_map (needs_by (plan_seen plan.now) (join_seen join))
+        (map row_view_seen lefts.now)) }
 {
     let mut needs = Vec::with_capacity(alloc, lefts.len())?;
     for left in lefts {
-        needs.push(right_need(alloc, plan, join, left)?)?;
+        if has_join_value(join, left) {
+            needs.push(right_need(alloc, plan, join, left)?)?;
+        }
     }
     Ok(needs)
 }
@@ -41,7 +44,7 @@ fn needs_of_seen(
     seen: &[SeenRow],
 ) -> Result<Vec<Need>, AllocError>
     ensures { IfOk result (λ needs. needs.items
-        ≡ map (right_need_of (plan_seen plan.now) (join_seen join))
+        ≡ flat_map (needs_by (plan_seen plan.now) (join_seen join))
         (filter (meets_left (plan_seen plan.now))
         (map (seen_row_view plan.now.query.now.bound_sources.left.schema.now
         plan.now.uncut_need.columns)

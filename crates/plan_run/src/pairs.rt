@@ -13,7 +13,7 @@ ghost use Rattle.plan_run.specs.Running.{ShowsPairs, AddsPairs};
 use crate::left_views::Shown;
 use crate::row_views::SeenRowView;
 use mb_tree::PartTree;
-use query_plan::{BoundJoin, Plan, push_pair, right_need};
+use query_plan::{BoundJoin, Plan, has_join_value, push_pair, right_need};
 use range_proof::scan;
 use std::alloc::{AllocError, Global};
 use vo_spec::{List, Need, ScanFault, Schema, SeenRow, Value};
@@ -47,7 +47,8 @@ fn push_rights<'r>(
     Ok(())
 }
 
-/// Puts what the tree shows for the left row at the end, and what the row needs.
+/// Puts what the tree shows for the left row at the end, and what the row needs: nothing of a row
+/// that has no value for ON.
 fn push_left(
     alloc: Global,
     plan: &Plan<'_, '_>,
@@ -61,6 +62,9 @@ fn push_left(
     ensures { AddsPairs result shown.old shown.new (plan_seen plan.now) (join_seen join)
         (row_view_seen left.now) (part_of tree.now) }
 {
+    if !has_join_value(join, left) {
+        return Ok(());
+    }
     let need = right_need(alloc, plan, join, left)?;
     let seen = scan(alloc, tree, &need)?;
     push_rights(alloc, plan, schema, left, seen.as_slice(), &mut shown.rows)?;

@@ -6,16 +6,16 @@ use Rattle.vo_spec.specs.Trees.{RowTree}
 use Rattle.std.specs.List.{list_any}
 use Rattle.mb_tree.specs.View.{part_of}
 use Rattle.query_plan.specs.BoundViews.{join_seen}
-use Rattle.query_plan.specs.Plans.{QueryPlan, right_need_of}
+use Rattle.query_plan.specs.Plans.{QueryPlan}
 use Rattle.query_plan.specs.PlanViews.{plan_seen}
 use Rattle.plan_run.specs.declared.left_views.Shown.{Shown}
-use Rattle.plan_run.specs.Running.{ShowsPairs, AddsPairs, is_unseen}
+use Rattle.plan_run.specs.Running.{ShowsPairs, AddsPairs, stops_at}
 use Rattle.plan_run.proofs.AnswerSteps.{any_row_view}
 use Rattle.plan_run.proofs.pairs.show_pairs.Goals as goal
 
 -- a fault of one left row is one of all
 fault_on : (fault : ScanFault) (old new : Shown) (p : QueryPlan) (on : ColumnPlace × ColumnPlace) (left : RowView) (lefts : List RowView) (tree : RowTree)
-    → (is_unseen tree (right_need_of p on left) ≡ true → list_any (λ l. is_unseen tree (right_need_of p on l)) lefts ≡ true)
+    → (stops_at p on tree left ≡ true → list_any (stops_at p on tree) lefts ≡ true)
     → AddsPairs (Err fault) old new p on left tree → ShowsPairs (Err fault) p on lefts tree
 fault_on Missing old new p on left lefts tree more h = more h
 fault_on Memory old new p on left lefts tree more h = tt
@@ -26,5 +26,5 @@ returns-in-Err c =
     let on = join_seen c.args.join in
     let tree = part_of c.args.tree.now in
     fault_on c.in-Err.fault _ _ p on _ _ tree
-    (any_row_view (λ l. is_unseen tree (right_need_of p on l)) _ _ _ c.loop-left-test.true c.left-item.is)
+    (any_row_view (stops_at p on tree) _ _ _ c.loop-left-test.true c.left-item.is)
     c.in-Err.ensures
