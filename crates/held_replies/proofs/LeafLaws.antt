@@ -1,9 +1,8 @@
 -- The leaf that a signature names, and how old a record is.
-use Rattle.std.proofs.Common.{◌≡◌, ℕ, ◌<◌, ◌^◌, Bool, true, false, if◌then◌else◌, List, [], Some, None, refl, subst, sym, arith}
+use Rattle.std.proofs.Common.{◌≡◌, ℕ, ◌<◌, List, [], Some, refl}
 use Rattle.std.proofs.lemmas.Bool.{lt-ltb, ne_eqb}
 use Rattle.vo_spec.specs.declared.checks.CheckFault.TheVariants.{Stale, WrongLeaf}
 use Rattle.vo_spec.specs.declared.records.Record.{Record}
-use Rattle.vo_spec.specs.Bytes.{u32_at, IsBytes}
 use Rattle.vo_spec.specs.Checks.{age_fault, leaf_fault}
 use Rattle.vo_spec.specs.Keys.{leaf_of}
 use Rattle.vo_spec.specs.Records.{no_tables}
