@@ -7,8 +7,8 @@ use crate::runs;
 use crate::text_faults::describe_fault;
 use line_pieces::{describe, word};
 use query_plan::{
-    BindFault, Plan, Query, RowView, bind, has_one_tree, is_narrow, meets_left, plan, right_need,
-    same_table, tables_used,
+    BindFault, Plan, Query, RowView, bind, has_join_value, has_one_tree, is_narrow, meets_left,
+    plan, right_need, same_table, tables_used,
 };
 use sql_text::parse_query;
 use std::alloc::Global;
@@ -120,7 +120,7 @@ impl RowView for Fields {
 }
 
 /// What the query needs for a left row of these values, none where the row doesn't meet the
-/// condition.
+/// condition or has no value for ON.
 fn right_need_text(alloc: Global, plan: &Plan<'_, '_>, values: &[u8]) -> io::Result<String> {
     match take_values(alloc, values)? {
         Ok(values) => right_need_of(alloc, plan, &Fields { values }),
@@ -132,7 +132,7 @@ fn right_need_of(alloc: Global, plan: &Plan<'_, '_>, row: &Fields) -> io::Result
     let Some(join) = plan.query.join else {
         return word(alloc, "no join");
     };
-    if !meets_left(plan, row) {
+    if !meets_left(plan, row) || !has_join_value(join, row) {
         return word(alloc, "none");
     }
     let need = right_need(alloc, plan, join, row)?;
