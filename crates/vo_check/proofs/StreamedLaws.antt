@@ -37,8 +37,8 @@ use Rattle.query_plan.specs.declared.bound_query.Query.{Query as HeldQuery}
 use Rattle.query_plan.specs.BoundQueries.{BoundQuery, bound_query}
 use Rattle.query_plan.proofs.MeaningLaws.{uncut_need_same}
 use Rattle.query_plan.specs.BoundViews.{join_seen, query_seen}
-use Rattle.query_plan.specs.Plans.{QueryPlan, bound_uncut_need, plan_of, right_need_of}
-use Rattle.plan_run.specs.Running.{group_needs, lefts_seen, needs_of, run_needs, run_rows}
+use Rattle.query_plan.specs.Plans.{QueryPlan, bound_uncut_need, plan_of}
+use Rattle.plan_run.specs.Running.{group_needs, lefts_seen, needs_by, needs_of, run_needs, run_rows}
 use Rattle.tree_stream.specs.declared.findings.Summary.{Summary}
 use Rattle.tree_stream.specs.declared.findings.Findings.{Findings}
 use Rattle.tree_stream.specs.declared.target.Target.{Target}
@@ -119,7 +119,7 @@ needs_tested need tree f missing surplus =
 -- A bound query without a join.
 
 no_right_needs : (p : QueryPlan) (lefts : List RowView) → p.query.join ≡ None → needs_of p lefts ≡ []
-no_right_needs p lefts none = ap (λ (j : Option (ColumnPlace × ColumnPlace)). flat_map (λ on. map (right_need_of p on) lefts) (option_to_list j)) none
+no_right_needs p lefts none = ap (λ (j : Option (ColumnPlace × ColumnPlace)). flat_map (λ on. flat_map (needs_by p on) lefts) (option_to_list j)) none
 
 needs_alone : (p : QueryPlan) (s : BoundSource) (trees : List RowTree) → p.query.bound_sources ≡ s ∷ [] → p.query.join ≡ None → run_needs p trees ≡ (p.uncut_need ∷ []) ∷ []
 needs_alone p s trees one none =
