@@ -77,4 +77,4 @@ pub none_found : (r s : Reply) → r.rec ≡ s.rec → ShowTheSame r s → IsMee
 none_found r s rec same = (rec, shown_same r s same)
 
 pub one_found : (r s : Reply) (found : List ℕ × List ℕ) → FitsReply r → FitsReply s → r.rec ≡ s.rec → HoldsOrCollides (Some found) (ShowTheSame r s) (AreOfReplies r s) → IsMeeting r s (Collide found)
-one_found r s found f g rec h = (rec, (λ same. h.0 (shown_told r s f g same)), h.1, h.2)
+one_found r s found f g rec h = (rec, (λ same. h.0 (shown_told r s f g rec same)), h.1, h.2)

@@ -2,6 +2,7 @@
 use Rattle.std.proofs.Common.{◌≡◌, ◌≢◌, ℕ, List, [], ◌∷◌, ◌++◌, length, flat_map, Option, Some, None, Result, Ok, Err, IfOk, is_some, true, false, sym, ap, ◌∙◌, subst, append_assoc}
 use Rattle.std.specs.Prelude.{codes}
 use Rattle.vo_spec.specs.declared.records.Catalog.{Catalog}
+use Rattle.vo_spec.specs.declared.records.Record.{Record}
 use Rattle.vo_spec.specs.Collides.{Collides}
 use Rattle.vo_spec.specs.Bytes.{block}
 use Rattle.vo_spec.specs.Records.{FitsCatalog, record_bytes, catalog_bytes, catalog_digest}
@@ -54,19 +55,26 @@ reply_parts : (r : Reply) → reply_bytes r ≡ head_bytes r ++ shown_bytes r
 unfolding reply_bytes
 reply_parts r = append_assoc (head_bytes r) (block (catalog_bytes r.catalog)) (length r.trees ∷ flat_map tree_bytes r.trees)
 
-with_shown_fits : (r s : Reply) → FitsReply r → FitsReply s → FitsReply (with_shown r s)
-with_shown_fits r s f g = record { rec = f.rec; signature = f.signature; catalog = g.catalog; count = g.count; trees = g.trees }
+with_shown_fits : (r s : Reply) → FitsReply r → FitsReply s → r.rec ≡ s.rec → FitsReply (with_shown r s)
+with_shown_fits r s f g rec = record {
+  rec = f.rec;
+  signature = f.signature;
+  catalog = g.catalog;
+  count = g.count;
+  trees = g.trees;
+  magic = ap (λ (x : Record). x.magic) rec ∙ g.magic;
+}
 
 -- what is read, or else this
 abbrev reply_in : Reply → Option (Reply × List ℕ) → Reply
 reply_in r None = r
 reply_in r (Some read) = read.0
 
-pub shown_told : (r s : Reply) → FitsReply r → FitsReply s → shown_bytes r ≡ shown_bytes s → ShowTheSame r s
-shown_told r s f g same =
+pub shown_told : (r s : Reply) → FitsReply r → FitsReply s → r.rec ≡ s.rec → shown_bytes r ≡ shown_bytes s → ShowTheSame r s
+shown_told r s f g rec same =
     let bytes : reply_bytes r ≡ reply_bytes (with_shown r s) = reply_parts r ∙ ap (λ (shown : List ℕ). head_bytes r ++ shown) same ∙ sym (reply_parts (with_shown r s)) in
     let whole : r ≡ with_shown r s =
-    ap (reply_in r) (sym (reply_again r [] f) ∙ ap (λ (b : List ℕ). reply_at (b ++ [])) bytes ∙ reply_again (with_shown r s) [] (with_shown_fits r s f g)) in
+    ap (reply_in r) (sym (reply_again r [] f) ∙ ap (λ (b : List ℕ). reply_at (b ++ [])) bytes ∙ reply_again (with_shown r s) [] (with_shown_fits r s f g rec)) in
     (ap (λ (x : Reply). x.catalog) whole, ap (λ (x : Reply). x.trees) whole)
 
 pub shown_same : (r s : Reply) → ShowTheSame r s → shown_bytes r ≡ shown_bytes s
