@@ -8,7 +8,7 @@ use Rattle.vo_spec.specs.declared.tables.Command.{Command}
 use Rattle.vo_spec.specs.declared.records.Record.{Record}
 use Rattle.vo_spec.specs.Batches.{FitsBatch}
 use Rattle.vo_spec.specs.Journals.{max_signature}
-use Rattle.vo_spec.specs.Records.{FitsRecord, magic_of, record_bytes}
+use Rattle.vo_spec.specs.Records.{FitsRecord, magic_of}
 use Rattle.vo_spec.specs.Owners.{IsSigned}
 use Rattle.vo_spec.specs.Honest.{Stored, after_work, catalog_of, honest_record, honest_trees, work_all}
 use Rattle.vo_laws.proofs.ListLaws.{each_both}

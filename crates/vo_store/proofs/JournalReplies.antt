@@ -1,6 +1,6 @@
 -- The replies by the entries of a journal.
-use Rattle.std.proofs.Common.{◌≡◌, ℕ, zero, suc, ◌+◌, ◌-◌, ◌<◌, ◌≤◌, List, [], ◌∷◌, Some, Result, Ok, Err, length, take, drop, refl, sym, ap, subst, ◌∙◌, arith}
-use Rattle.std.specs.Prelude.{◌⊎◌, IfOk, IfSome, Option, option_map, slice_get}
+use Rattle.std.proofs.Common.{◌≡◌, ℕ, zero, suc, ◌+◌, ◌-◌, ◌<◌, List, [], ◌∷◌, Some, Result, Ok, Err, length, take, drop, refl, sym, ap, subst, ◌∙◌, arith}
+use Rattle.std.specs.Prelude.{IfOk, IfSome, Option, option_map, slice_get}
 use Rattle.std.specs.Global.{Vec}
 use Rattle.std.specs.List.{AllByRecursion}
 use Rattle.std.proofs.lemmas.List.{length-take-le, take_all}
@@ -10,12 +10,11 @@ use Rattle.vo_spec.specs.declared.records.Record.{Record}
 use Rattle.vo_spec.specs.Conditions.{Query}
 use Rattle.vo_spec.specs.Journals.{FitsEntry, batches_of, last_version}
 use Rattle.vo_spec.specs.Owners.{IsLoadable}
-use Rattle.vo_spec.specs.Replies.{Reply, max_reply, reply_bytes}
+use Rattle.vo_spec.specs.Replies.{Reply, reply_bytes}
 use Rattle.vo_spec.specs.Honest.{Stored, honest_record, honest_reply, honest_trees, reply_of}
 use Rattle.vo_laws.proofs.EntryLaws.{entry_held}
 use Rattle.owner_state.specs.Departing.{trees_at}
 use Rattle.owner_state.proofs.DepartLaws.{first_trees}
-use Rattle.vo_store.specs.declared.fault.StoreFault.{StoreFault}
 use Rattle.vo_store.specs.declared.fault.ReplyFault.{ReplyFault}
 use Rattle.vo_store.specs.declared.fault.ReplyFault.TheVariants as reply
 use Rattle.vo_store.specs.Calls.{within_limit}

@@ -3,7 +3,7 @@ use Rattle.std.proofs.Common.{◌≡◌, ℕ, ◌<◌, ◌≤◌, List, Some, le
 use Rattle.vo_spec.specs.declared.records.Record.{Record}
 use Rattle.vo_spec.specs.Records.{record_bytes}
 use Rattle.vo_spec.specs.Journals.{max_signature}
-use Rattle.vo_spec.specs.Keys.{key_tree, leaf_count}
+use Rattle.vo_spec.specs.Keys.{key_tree}
 use Rattle.vo_spec.specs.Owners.{IsSigned}
 use Rattle.vo_laws.proofs.SealedLaws.{signatures_short}
 use Rattle.lms_sign.proofs.ValidSignatures.{IsOne, told_of_valid, leaf_count_few}

@@ -1,10 +1,9 @@
 -- A store's proposals and installs beside the plain tables, its clients and its owner.
-use Rattle.std.proofs.Common.{◌≡◌, ℕ, ◌+◌, ◌-◌, ◌≤◌, Bool, true, false, cond, List, [], ◌∷◌, ◌++◌, Option, Some, None, Result, Ok, Err, length, take, refl, sym, ap, subst, ◌∙◌, inr, arith}
-use Rattle.std.specs.Prelude.{is_none, is_some, nat_le, IsOk, IsSome}
+use Rattle.std.proofs.Common.{◌≡◌, ℕ, ◌+◌, ◌-◌, ◌≤◌, cond, List, [], ◌∷◌, ◌++◌, Option, Some, None, Result, Ok, Err, length, take, refl, sym, ap, subst, ◌∙◌, inr, arith}
+use Rattle.std.specs.Prelude.{is_none, is_some, IsOk, IsSome}
 use Rattle.std.specs.Global.{Vec}
 use Rattle.std.specs.List.{AllByRecursion}
 use Rattle.std.specs.Result.{is_ok, result_map_both}
-use Rattle.std.proofs.lemmas.Bool.{leb-true}
 use Rattle.std.proofs.lemmas.List.{length-take-le}
 use Rattle.vo_spec.specs.declared.tables.Command.{Command}
 use Rattle.vo_spec.specs.declared.tables.CommandFault.{CommandFault}
@@ -20,7 +19,7 @@ use Rattle.vo_spec.specs.Tables.{apply_batch, tables_after}
 use Rattle.vo_spec.specs.Journals.{max_proofs}
 use Rattle.vo_spec.specs.Owners.{IsSigned}
 use Rattle.vo_spec.specs.Records.{FitsRecord, magic_of}
-use Rattle.vo_spec.specs.Replies.{FitsReply, IsReply, Reply, max_reply, proofs_bytes, reply_bytes}
+use Rattle.vo_spec.specs.Replies.{FitsReply, IsReply, Reply, proofs_bytes, reply_bytes}
 use Rattle.vo_spec.specs.Honest.{RepresentTables, Stored, after_work, catalog_of, honest_proofs, honest_record, honest_reply, work_all}
 use Rattle.vo_laws.specs.FittingTables.{FitTables}
 use Rattle.vo_laws.proofs.CompleteReplies.{honest_answer}

@@ -1,6 +1,5 @@
-use Rattle.std.proofs.Common.{◌≡◌, ℕ, ◌+◌, ◌-◌, Some, length, subst, take}
+use Rattle.std.proofs.Common.{◌≡◌, ℕ, ◌+◌, ◌-◌, Some, subst, take}
 use Rattle.vo_spec.specs.Conditions.{query_of}
-use Rattle.vo_spec.specs.Journals.{last_version}
 use Rattle.vo_spec.specs.Replies.{Reply, reply_bytes}
 use Rattle.vo_spec.specs.Honest.{reply_of}
 use Rattle.vo_store.specs.Calls.{within_limit}

@@ -1,4 +1,4 @@
-use Rattle.std.proofs.Common.{◌≡◌, ℕ, List, [], ◌∷◌, ◌++◌, Option, Some, drop, sym, ap, subst, ◌∙◌}
+use Rattle.std.proofs.Common.{◌≡◌, ℕ, List, [], ◌∷◌, ◌++◌, Some, drop, sym, ap, subst, ◌∙◌}
 use Rattle.vo_spec.specs.declared.records.Entry.{Entry}
 use Rattle.vo_spec.specs.Journals.{batches_of}
 use Rattle.vo_spec.specs.Honest.{Stored, honest_trees}
