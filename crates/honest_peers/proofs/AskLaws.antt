@@ -15,23 +15,16 @@ use Rattle.link_frames.specs.Frames.{Coming, Whole, frame_bytes, is_length, may_
 use Rattle.link_frames.proofs.FrameLaws.{read_back}
 use Rattle.vo_spec.specs.declared.checks.Answer.{Answer as Accepted}
 use Rattle.vo_spec.specs.declared.checks.CheckFault.{CheckFault}
-use Rattle.vo_spec.specs.declared.queries.Operand.{Operand}
-use Rattle.vo_spec.specs.declared.queries.Operand.TheVariants as operand_of
 use Rattle.vo_spec.specs.declared.queries.Ref.{Ref}
 use Rattle.vo_spec.specs.declared.records.Record.{Record}
 use Rattle.vo_spec.specs.declared.tables.Command.{Command}
-use Rattle.vo_spec.specs.declared.values.Value.{Value}
-use Rattle.vo_spec.specs.declared.values.Value.TheVariants as value
 use Rattle.vo_spec.specs.Checks.{CheckOf, answer_to}
-use Rattle.vo_spec.specs.Conditions.{FitsOperand, FitsQuery, Query, comparisons}
+use Rattle.vo_spec.specs.Conditions.{FitsQuery, Query}
 use Rattle.vo_spec.specs.Results.{result}
 use Rattle.vo_spec.specs.Tables.{tables_after}
-use Rattle.vo_spec.specs.Values.{FitsValue, IsInRange}
 use Rattle.batch_format.proofs.ReaderLaws.{some_is}
 use Rattle.sql_text.specs.Limits.{max_sql_bytes}
-use Rattle.sql_text.specs.Printable.{PrintableOperand, PrintableSides}
-use Rattle.sql_text.proofs.Made.{all_mapped}
-use Rattle.sql_text.proofs.QueryFits.{query_fits}
+use Rattle.sql_text.proofs.QueryFits.{printable_fits, query_fits}
 use Rattle.sql_text.proofs.TokenEnds.{utf8_tokens}
 use Rattle.round_trips.specs.Trips.{plain_answer}
 use Rattle.vo_spec.specs.Honest.{honest_record, honest_reply, honest_trees}
@@ -222,20 +215,9 @@ kept_there s version q bytes e = step s.installed refl e
 
 -- The numbers of a query's text have 64 bits with a sign.
 
-in_range : (v : Value) → FitsValue v → IsInRange v
-in_range (value.Int z) h = h
-in_range (value.Text t) h = tt
-in_range (value.Bool b) h = tt
-
-side_fits : (o : Operand) → PrintableOperand o → FitsOperand o
-side_fits (operand_of.Ref r) h = tt
-side_fits (operand_of.Literal v) h = in_range v h
-
 query_numbers : (text : List ℕ) (q : Query) → IsUtf8 text → IsQueryText text q → FitsQuery q
 query_numbers text q utf8 is =
-    all_mapped PrintableSides (λ (c : Ref × Operand). FitsOperand c.1)
-    (option_map_or comparisons q.condition []) (λ c f. side_fits c.1 f.1)
-    (query_fits max_sql_bytes text q (utf8_tokens text utf8) is).tests
+    printable_fits q (query_fits max_sql_bytes text q (utf8_tokens text utf8) is)
 
 -- Plain answers.
 
