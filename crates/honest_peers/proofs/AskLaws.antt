@@ -15,7 +15,6 @@ use Rattle.link_frames.specs.Frames.{Coming, Whole, frame_bytes, is_length, may_
 use Rattle.link_frames.proofs.FrameLaws.{read_back}
 use Rattle.vo_spec.specs.declared.checks.Answer.{Answer as Accepted}
 use Rattle.vo_spec.specs.declared.checks.CheckFault.{CheckFault}
-use Rattle.vo_spec.specs.declared.queries.Ref.{Ref}
 use Rattle.vo_spec.specs.declared.records.Record.{Record}
 use Rattle.vo_spec.specs.declared.tables.Command.{Command}
 use Rattle.vo_spec.specs.Checks.{CheckOf, answer_to}
