@@ -11,7 +11,6 @@ use Rattle.vo_spec.specs.declared.cells.Cell.TheVariants.{Shown, Hidden}
 use Rattle.vo_spec.specs.declared.cells.RowPart.TheVariants.{Digest as Closed, Cells}
 use Rattle.vo_spec.specs.declared.needs.Need.{Need}
 use Rattle.vo_spec.specs.declared.records.Catalog.{Catalog}
-use Rattle.vo_spec.specs.declared.records.Record.{Record}
 use Rattle.vo_spec.specs.declared.tables.Batch.{Batch}
 use Rattle.vo_spec.specs.declared.tables.Command.{Command}
 use Rattle.vo_spec.specs.declared.tables.Schema.{Schema}
@@ -44,6 +43,7 @@ use Rattle.vo_laws.proofs.RepresentationLaws.{stands}
 use Rattle.vo_laws.proofs.StoredFits.{honest_trees_fit, root_length}
 use Rattle.vo_laws.proofs.ValueOrder.{number_length}
 use Rattle.vo_gen.specs.Words.{key_of_number, word_of}
+use Rattle.owner_state.proofs.EntryLaws.{record_long}
 use Rattle.vo_gen.specs.Workload.{IsDrawn, batches, commands_of, is_even, join_query, keys_for, max_steps, number, queries, queries_of, query, query_count, selection, tables_of}
 use Rattle.vo_gen.proofs.Accepted.{workload_drawn, workload_few, workload_table}
 use Rattle.vo_gen.proofs.Sizes.{batches_fit, each_of, label_length, label_size, number_size, word_below}
@@ -238,10 +238,6 @@ one_wanted q c one = step (is_some (binding_fault (table_headers c) q))
     step true = omega arith
     step false = one (table_headers c)
 
-record_size : (r : Record) → FitsRecord r → length (record_bytes r) ≡ 60
-unfolding record_bytes u64_bytes
-record_size r fits = simp length-append (omega (arith, fits.id, fits.catalog))
-
 u32_size : (n : ℕ) → length (u32_bytes n) ≡ 4
 unfolding u32_bytes
 u32_size n = refl
@@ -252,7 +248,7 @@ unfolding reply_bytes
 reply_size r fits =
     simp length-append (omega (
       arith,
-      record_size r.rec fits,
+      record_long r.rec fits,
       u32_size (length r.signature),
       u32_size (length (catalog_bytes r.catalog)),
     ))
