@@ -11,7 +11,9 @@ use std::alloc::{AllocError, Global};
 use std::test::Fail;
 use store_requests::read_query;
 use vo_check::{Checking, Client};
-use vo_spec::{Answer, Batch, CheckFault, Digest, List, Magic, Outcome, QueryFault, QueryText, Record};
+use vo_spec::{
+    Answer, Batch, CheckFault, Digest, List, Magic, Outcome, QueryFault, QueryText, Record,
+};
 use vo_store::Store;
 
 /// Requests of one query: of the newest version, of version 0 and of version 1.
