@@ -1,5 +1,5 @@
 -- Conditions, and when a row meets one.
-use Rattle.std.specs.Prelude.{Bool, true, false, not, ◌&&◌, ◌||◌, List, [], ◌∷◌, ◌++◌, Option, Some, None, option_map, if◌then◌else◌, unwrap_or}
+use Rattle.std.specs.Prelude.{ℕ, Bool, true, false, not, ◌&&◌, ◌||◌, List, [], ◌∷◌, ◌++◌, Option, Some, None, option_map, if◌then◌else◌, unwrap_or}
 use Rattle.std.specs.Option.{option_map_or}
 use Rattle.std.specs.List.{AllByRecursion}
 use Rattle.std.specs.declared.cmp.Ordering.{Ordering}
@@ -139,6 +139,7 @@ pub record Query : Type 0 where
   pub left : Source
   pub join : Option Join
   pub condition : Option Condition
+  pub limit : Option ℕ
 
 abbrev pub query_of : QueryText → Query
 query_of q = record {
@@ -146,6 +147,7 @@ query_of q = record {
   left = q.left;
   join = q.join;
   condition = option_map condition_of q.cond;
+  limit = q.limit;
 }
 
 -- What a condition names, in the order of its text.

@@ -1,6 +1,6 @@
 -- What a query needs of its tables' trees: of the left one an interval of keys, of the right one a
 -- row for each left row that meets the query so far, and of both the columns that the query names.
-use Rattle.std.specs.Prelude.{ℕ, Bool, true, false, not, ◌&&◌, ◌||◌, ◌==◌, if◌then◌else◌, List, [], ◌∷◌, map, length, slice_index_or, filter, flat_map, option_to_list, unwrap_or, bytes_eq}
+use Rattle.std.specs.Prelude.{ℕ, Bool, true, false, not, ◌&&◌, ◌||◌, ◌==◌, if◌then◌else◌, List, [], ◌∷◌, map, length, slice_index_or, filter, flat_map, Option, Some, None, option_to_list, unwrap_or, bytes_eq}
 use Rattle.std.specs.Option.{option_map_or}
 use Rattle.std.specs.List.{list_any, list_all, position_or_len}
 use Rattle.vo_spec.specs.declared.values.Value.{Value}
@@ -24,6 +24,7 @@ use Rattle.vo_spec.specs.Results.{BoundSource, ColumnPlace, bound_source_at, sch
 use Rattle.vo_spec.specs.Parts.{leaf}
 use Rattle.vo_spec.specs.Trees.{RowTree}
 use Rattle.vo_spec.specs.Scans.{seen}
+use Rattle.vo_spec.specs.Cuts.{RowCondition, limited_need}
 
 -- Intervals: what keys a comparison with a literal lets through, and what two intervals share. Of
 -- equal bounds the exclusive one counts.
@@ -142,9 +143,26 @@ uncut_need ss q = record {
   columns = named_cells ss q 0;
 }
 
--- what it needs of this left tree: all that it asks for
+-- a row that was seen, as the values of its columns: those in its key and in the need's cells
+abbrev pub seen_row_view : Schema → List ℕ → SeenRow → RowView
+seen_row_view schema cells row column =
+    if column == schema.key then value_of_key (column_at schema.columns column).kind row.key
+    else value_at row.values (position_or_len (λ c. c == cell_number schema.key column) cells)
+
+-- whether a row that a scan for the uncut need gives meets the left condition
+abbrev pub meets_row : List BoundSource → Query → RowCondition
+meets_row ss q row = meets_left ss q (seen_row_view (schema_at ss 0) (uncut_need ss q).columns row)
+
+-- How many left rows are needed. A left row of a join may have no row in the answer, so a join's
+-- limit says nothing of them.
+abbrev pub left_limit : {J : Type 0} → Option J → Option ℕ → Option ℕ
+left_limit None limit = limit
+left_limit (Some join) limit = None
+
+-- what it needs of this left tree: all that it asks for, or that up to the last row that it wants
 abbrev pub left_need : List BoundSource → Query → RowTree → Need
-left_need ss q left = uncut_need ss q
+left_need ss q left =
+    limited_need (uncut_need ss q) (meets_row ss q) (left_limit q.join q.limit) left
 
 -- the value by which a left row finds its right row
 abbrev pub join_value : List BoundSource → Join → RowView → Value
@@ -159,12 +177,6 @@ right_need ss q j left = record {
   interval = keys_that cmp.Eq (key_of (join_value ss j left));
   columns = named_cells ss q 1;
 }
-
--- a row that was seen, as the values of its columns: those in its key and in the need's cells
-abbrev pub seen_row_view : Schema → List ℕ → SeenRow → RowView
-seen_row_view schema cells row column =
-    if column == schema.key then value_of_key (column_at schema.columns column).kind row.key
-    else value_at row.values (position_or_len (λ c. c == cell_number schema.key column) cells)
 
 abbrev pub seen_row_views : Schema → Need → RowTree → List RowView
 seen_row_views schema need p = map (seen_row_view schema need.columns) (unwrap_or (seen need p) [])

@@ -1,5 +1,5 @@
 -- What a query gives on plain tables: filters and nested loops.
-use Rattle.std.specs.Prelude.{ℕ, zero, suc, ◌+◌, Bool, true, not, ◌&&◌, ◌==◌, nat_lt, if◌then◌else◌, List, [], ◌∷◌, ◌++◌, map, length, slice_index_or, filter, flat_map, count_by, Option, Some, None, option_map, option_to_list, is_some, bytes_eq}
+use Rattle.std.specs.Prelude.{ℕ, zero, suc, ◌+◌, Bool, true, not, ◌&&◌, ◌==◌, nat_lt, if◌then◌else◌, List, [], ◌∷◌, ◌++◌, map, length, slice_index_or, take, filter, flat_map, count_by, Option, Some, None, option_map, option_to_list, is_some, bytes_eq}
 use Rattle.std.specs.Option.{option_map_or}
 use Rattle.std.specs.List.{list_any, position_or_len}
 use Rattle.vo_spec.specs.declared.values.Kind.{Kind}
@@ -219,12 +219,22 @@ combinations None lefts rights = map (λ left. left ∷ []) lefts
 combinations (Some j) lefts rights =
     flat_map (λ left. map (λ right. left ∷ right ∷ []) (rights left)) lefts
 
--- What the query shows of left rows, each with its right rows: those that meet it, projected.
-abbrev pub answer_rows : List BoundSource → Query → List RowView → (RowView → List RowView)
+-- What the query shows of left rows, each with its right rows, whatever its limit: those that meet
+-- it, projected.
+abbrev pub unlimited_rows : List BoundSource → Query → List RowView → (RowView → List RowView)
     → List (List Value)
-answer_rows ss q lefts rights =
+unlimited_rows ss q lefts rights =
     map (λ rows. map (place_value rows) (shown_places ss q.items))
     (filter (is_answer ss q) (combinations q.join lefts rights))
+
+-- the first of them, where no more than so many are wanted
+abbrev pub first_rows : {A : Type 0} → Option ℕ → List A → List A
+first_rows None rows = rows
+first_rows (Some n) rows = take n rows
+
+abbrev pub answer_rows : List BoundSource → Query → List RowView → (RowView → List RowView)
+    → List (List Value)
+answer_rows ss q lefts rights = first_rows q.limit (unlimited_rows ss q lefts rights)
 
 abbrev pub outcome : Option QueryFault → List (List ℕ) → List (List Value) → Outcome
 outcome None titles rows = Rows titles rows

@@ -61,12 +61,15 @@ pub enum Cond {
     IsNull { left: Ref, negated: bool },
 }
 
+/// A query. A text gives a limit of at least one row, and none beside a join.
 #[derive(Debug, Drop)]
 pub struct QueryText {
     pub items: Items,
     pub left: Source,
     pub join: Option<Join>,
     pub cond: Option<Cond>,
+    /// How many rows are wanted at most, the first ones; all of them where it is absent.
+    pub limit: Option<u32>,
 }
 
 /// Why a query has no rows: a name or a kind that the tables don't bear out.
