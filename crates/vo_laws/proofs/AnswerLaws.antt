@@ -17,7 +17,7 @@ use Rattle.vo_spec.specs.declared.queries.Operand.{Operand}
 use Rattle.vo_spec.specs.Values.{value_of_key, IsKeyOf}
 use Rattle.vo_spec.specs.Tables.{column_at, has_column, cell_number}
 use Rattle.vo_spec.specs.Conditions.{Condition, condition_refs, comparisons, is_true, is_met, Query, FitsOperand, FitsQuery}
-use Rattle.vo_spec.specs.Results.{BoundSource, ColumnPlace, bound_source_at, schema_at, place_of, means_column_of, qualifies, item_refs, join_refs, query_refs, numbers_from, places_in, shown_places, RowView, row_view_of, no_row_view, place_value, ref_value, is_joined, is_answer, combinations, answer_rows}
+use Rattle.vo_spec.specs.Results.{BoundSource, ColumnPlace, bound_source_at, schema_at, place_of, means_column_of, qualifies, item_refs, join_refs, query_refs, numbers_from, places_in, shown_places, RowView, row_view_of, no_row_view, place_value, ref_value, is_joined, is_answer, combinations, unlimited_rows}
 use Rattle.vo_spec.specs.Scans.{in_interval}
 use Rattle.vo_spec.specs.Needs.{all_keys, interval_of, left_truth, meets_left, is_place, shows_all, is_named_column, named_columns, named_cells, uncut_need}
 use Rattle.vo_spec.specs.Checks.{key_kind}
@@ -84,8 +84,8 @@ module _ (ss : List BoundSource) (q : Query) where
       ∙ ap (λ z. z ++ flat_map answer_of (combinations (Some j) lefts rights)) (flat_map_map answer_of (λ right. left ∷ right ∷ []) (rights left))
       ∙ ap (λ z. flat_map (λ right. answer_of (left ∷ right ∷ [])) (rights left) ++ z) (joined_answers (Some j) lefts rights)
 
-  pub answer_rows_are : (lefts : List RowView) (rights : RowView → List RowView) → answer_rows ss q lefts rights ≡ flat_map (answers_of q.join rights) lefts
-  answer_rows_are lefts rights =
+  pub unlimited_rows_are : (lefts : List RowView) (rights : RowView → List RowView) → unlimited_rows ss q lefts rights ≡ flat_map (answers_of q.join rights) lefts
+  unlimited_rows_are lefts rights =
       filtered_map (λ rows. map (place_value rows) (shown_places ss q.items)) (is_answer ss q) (combinations q.join lefts rights)
       ∙ joined_answers q.join lefts rights
 

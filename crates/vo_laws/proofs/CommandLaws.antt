@@ -29,6 +29,7 @@ use Rattle.vo_spec.specs.Representation.{AreRising}
 use Rattle.vo_spec.specs.Checks.{key_kind, is_key_of}
 use Rattle.vo_laws.specs.FittingTables.{HasKinds, FitsTable, names_of, FitTables}
 use Rattle.vo_laws.proofs.KeyOrder.{same_key, key_lt_lt}
+pub use Rattle.vo_laws.proofs.ListLaws.{each_filter}
 use Rattle.vo_laws.proofs.ListLaws.{each_weaker, each_both, each_map, each_mapped}
 use Rattle.vo_laws.proofs.ValueOrder.{number_length}
 
@@ -179,14 +180,6 @@ row_has_kinds t values schema fits is = record {
 }
 
 -- A table is dropped.
-
-pub each_filter : {A : Type 0} (P : A → Type 0) (test : A → Bool) (xs : List A) → AllByRecursion P xs → AllByRecursion P (filter test xs)
-each_filter P test [] all = tt
-each_filter {A} P test (x ∷ xs) all = step (test x) (each_filter P test xs all.1)
-  where
-    step : (b : Bool) → AllByRecursion P (filter test xs) → AllByRecursion P (cond b (x ∷ filter test xs) (filter test xs))
-    step true rest = (all.0, rest)
-    step false rest = rest
 
 filter_rises : (test : Table → Bool) (tables : List Table) → AreRising (names_of tables) → AreRising (names_of (filter test tables))
 filter_rises test [] r = tt

@@ -1,5 +1,5 @@
 -- A client accepts the reply of an honest store, and its outcome is the query's result.
-use Rattle.std.proofs.Common.{◌≡◌, ℕ, suc, ◌≤◌, Bool, true, false, cond, List, [], ◌∷◌, ◌++◌, Option, Some, None, Ok, length, map, inl, refl, sym, ap, ◌∙◌, subst}
+use Rattle.std.proofs.Common.{◌≡◌, ℕ, suc, ◌≤◌, Bool, true, false, cond, List, [], ◌∷◌, ◌++◌, Option, Some, None, Ok, length, map, inl, inr, refl, sym, ap, ◌∙◌, subst}
 use Rattle.std.specs.Prelude.{◌==◌, nat_lt, filter, zip, is_some, bytes_eq, unwrap_or, option_and_then}
 use Rattle.std.specs.Option.{option_map_or}
 use Rattle.std.specs.List.{list_any, list_all, AllByRecursion, AllZip}
@@ -25,7 +25,7 @@ use Rattle.vo_spec.specs.Records.{table_headers, record_bytes, catalog_digest}
 use Rattle.vo_spec.specs.Trees.{RowTree, Prunes}
 use Rattle.vo_spec.specs.Scans.{seen}
 use Rattle.vo_spec.specs.Pruning.{is_missing, has_surplus, prune_tree}
-use Rattle.vo_spec.specs.Needs.{meets_left, uncut_need, has_join_value, right_need, named_cells, seen_row_view, right_needs, needs, tables_used, same_table}
+use Rattle.vo_spec.specs.Needs.{meets_left, uncut_need, left_need, has_join_value, right_need, named_cells, seen_row_view, right_needs, needs, tables_used, same_table}
 use Rattle.vo_spec.specs.Checks.{table_named, has_table_shape, root_fault, trees_of, key_fault, leaf_fault, signature_fault, age_fault, catalog_fault, count_fault, shape_fault, missing_fault, surplus_fault, check_fault, seen_outcome, answer_to}
 use Rattle.vo_spec.specs.Replies.{Reply}
 use Rattle.vo_spec.specs.Keys.{key_id, lms_valid}
@@ -33,21 +33,19 @@ use Rattle.vo_spec.specs.Owners.{IsSigned}
 use Rattle.vo_spec.specs.Honest.{Stored, RepresentTables, catalog_of, stored_tree, pruned_each, honest_reply, honest_trees, honest_record}
 use Rattle.vo_laws.proofs.RepresentationLaws.{stands}
 use Rattle.vo_laws.proofs.ListLaws.{IsIn, each_both}
-use Rattle.vo_laws.proofs.ScanLaws.{IsNoneOrSame, Shows, sound, complete}
+use Rattle.vo_laws.proofs.ScanLaws.{part_seen}
 use Rattle.vo_laws.proofs.PrunedLaws.{pruned_prunes, pruned_bare}
 use Rattle.vo_laws.specs.FittingTables.{FitTables}
 use Rattle.vo_laws.proofs.ReplyTrees.{AreBelow, AreBounded, HasCells, pruned_complete, good}
-use Rattle.vo_laws.proofs.NamedFits.{cells_of, NamedFits, named_fits, named_cells_below}
+use Rattle.vo_laws.proofs.NamedFits.{cells_of, NamedFits, named_fits, named_cells_below, named_have}
+use Rattle.vo_laws.proofs.LeftNeeds.{left_columns, left_kept}
 use Rattle.vo_laws.proofs.JoinLaws.{is_bytes}
-use Rattle.vo_laws.proofs.ExactOutcomes.{exact, named_stands, same_table_headers}
+use Rattle.vo_laws.proofs.TablesByName.{named_stands, same_table_headers}
+use Rattle.vo_laws.proofs.ExactOutcomes.{exact}
 
 -- what is seen of a proof is what is seen of its tree
 pub seen_same : (ns : List Need) (need : Need) (t : RowTree) → IsIn need ns → is_missing ns (prune_tree ns t) ≡ false → seen need (prune_tree ns t) ≡ seen need t
-seen_same ns need t i full = step (seen need (prune_tree ns t)) (complete ns need (prune_tree ns t) i full) (sound need (prune_tree ns t) t (pruned_prunes ns t))
-  where
-    step : (o : Option (List SeenRow)) → Shows o → IsNoneOrSame o (seen need t) → o ≡ seen need t
-    step None s g = absurd s
-    step (Some xs) s g = sym g
+seen_same ns need t i full = part_seen ns need (prune_tree ns t) t (pruned_prunes ns t) i full
 
 module _ (stored : List Stored) (tables : List Table) (stand : RepresentTables stored tables) (fit : FitTables tables) where
   abbrev tree : List ℕ → RowTree
@@ -110,16 +108,20 @@ module _ (stored : List Stored) (tables : List Table) (stand : RepresentTables s
         (pruned_each (needs (bound_sources (map table_header_of tables) q) q (map tree (tables_used (bound_sources (map table_header_of tables) q)))) (map tree (tables_used (bound_sources (map table_header_of tables) q))))
         ≡ needs (bound_sources (map table_header_of tables) q) q (map tree (tables_used (bound_sources (map table_header_of tables) q)))
 
-  one_source : (items : Items) (left : Source) (condition : Option Condition) → NeedsFit (record { items = items; left = left; join = None; condition = condition })
-  one_source items left condition =
-      let q : Query = record { items = items; left = left; join = None; condition = condition } in
+  one_source : (items : Items) (left : Source) (condition : Option Condition) (limit : Option ℕ) → NeedsFit (record { items = items; left = left; join = None; condition = condition; limit = limit })
+  one_source items left condition limit =
+      let q : Query = record { items = items; left = left; join = None; condition = condition; limit = limit } in
       let ss : List BoundSource = bound_sources (map table_header_of tables) q in
       let f = bound_source_fits left.table in
-      record { fits = ((cells_of (schema_at ss 0), (named_cells_below ss q 0 (rows_named left.table tables) f, tt), f.cells), tt); same = refl }
+      let named : AreBelow (cells_of (schema_at ss 0)) (named_cells ss q 0) = named_cells_below ss q 0 (rows_named left.table tables) f in
+      let below : AreBelow (cells_of (schema_at ss 0)) (left_need ss q (tree left.table)).columns = subst (AreBelow (cells_of (schema_at ss 0))) (sym (left_columns ss q (tree left.table))) named in
+      let kept : left_need ss q (prune_tree (left_need ss q (tree left.table) ∷ []) (tree left.table)) ≡ left_need ss q (tree left.table) =
+      left_kept ss q (tree left.table) (rows_named left.table tables) (named_stands left.table stored tables stand) (named_have ss q (rows_named left.table tables) f) in
+      record { fits = ((cells_of (schema_at ss 0), (below, tt), f.cells), tt); same = ap (λ need. (need ∷ []) ∷ []) kept }
 
-  module _ (items : Items) (left : Source) (j : Join) (condition : Option Condition) where
+  module _ (items : Items) (left : Source) (j : Join) (condition : Option Condition) (limit : Option ℕ) where
     abbrev joining : Query
-    joining = record { items = items; left = left; join = Some j; condition = condition }
+    joining = record { items = items; left = left; join = Some j; condition = condition; limit = limit }
 
     abbrev both_sources : List BoundSource
     both_sources = bound_sources (map table_header_of tables) joining
@@ -207,12 +209,13 @@ module _ (stored : List Stored) (tables : List Table) (stand : RepresentTables s
             × (needs_by b (pruned_each (needs_by b (map tree (names_by b))) (map tree (names_by b))) ≡ needs_by b (map tree (names_by b)))
         by_table b e = let z = fits_by b e in (z, same_by b z)
 
-  any_source : (items : Items) (left : Source) (join : Option Join) (condition : Option Condition) → NeedsFit (record { items = items; left = left; join = join; condition = condition })
-  any_source items left None condition = one_source items left condition
-  any_source items left (Some j) condition = two_sources items left j condition
+  any_source : (items : Items) (left : Source) (join : Option Join) (condition : Option Condition) (limit : Option ℕ)
+      → NeedsFit (record { items = items; left = left; join = join; condition = condition; limit = limit })
+  any_source items left None condition limit = one_source items left condition limit
+  any_source items left (Some j) condition limit = two_sources items left j condition limit
 
   pub needs_fit : (q : Query) → NeedsFit q
-  needs_fit q = any_source q.items q.left q.join q.condition
+  needs_fit q = any_source q.items q.left q.join q.condition q.limit
 
   -- The trees of the reply.
 
@@ -291,7 +294,7 @@ module _ (stored : List Stored) (tables : List Table) (stand : RepresentTables s
       let hs : List TableHeader = table_headers (catalog_of stored) in
       let w = well_headed q in
       let missing : missing_fault q r ≡ None = cond-false (list_any (λ (t : List Need × RowTree). is_missing t.0 t.1) (needed_if q hs (is_some (binding_fault hs q)))) _ None w.2 in
-      let outcome_is : seen_outcome q r.catalog r.trees ≡ result q tables = exact q r stored tables stand fits refl w.1 missing in
+      let outcome_is : seen_outcome q r.catalog r.trees ≡ result q tables = exact q r stored tables stand (inr fit) fits refl w.1 missing in
       ap (λ o. unless o (record { version = rec.version; outcome = seen_outcome q r.catalog r.trees })) (unrefused key least q rec signature id catalog signed recent)
       ∙ ap (λ o. Ok (record { version = rec.version; outcome = o })) outcome_is
 

@@ -35,6 +35,14 @@ pub each_both : {A : Type 0} (P : A → Type 0) (xs ys : List A) → AllByRecurs
 each_both P [] ys all more = more
 each_both P (x ∷ xs) ys all more = (all.0, each_both P xs ys all.1 more)
 
+pub each_filter : {A : Type 0} (P : A → Type 0) (test : A → Bool) (xs : List A) → AllByRecursion P xs → AllByRecursion P (filter test xs)
+each_filter P test [] all = tt
+each_filter {A} P test (x ∷ xs) all = step (test x) (each_filter P test xs all.1)
+  where
+    step : (b : Bool) → AllByRecursion P (filter test xs) → AllByRecursion P (cond b (x ∷ filter test xs) (filter test xs))
+    step true rest = (all.0, rest)
+    step false rest = rest
+
 pub each_map : {A B : Type 0} (P : B → Type 0) (f : A → B) (xs : List A) → AllByRecursion (λ x. P (f x)) xs → AllByRecursion P (map f xs)
 each_map P f [] all = tt
 each_map P f (x ∷ xs) all = (all.0, each_map P f xs all.1)

@@ -14,11 +14,12 @@ use Rattle.vo_spec.specs.Values.{is_of_kind}
 use Rattle.vo_spec.specs.Tables.{TableHeader, table_header_of, table_header_named, rows_named, cell_number, are_of_kinds}
 use Rattle.vo_spec.specs.Conditions.{Query}
 use Rattle.vo_spec.specs.Results.{BoundSource, schema_at, no_schema, numbers_from}
-use Rattle.vo_spec.specs.Needs.{is_named_column, named_columns, named_cells}
+use Rattle.vo_spec.specs.Needs.{is_named_column, named_columns, named_cells, uncut_need}
 use Rattle.vo_laws.proofs.ListLaws.{IsIn, each_of, each_from, each_map, filter_in}
 use Rattle.vo_laws.proofs.AnswerLaws.{numbers_below}
+use Rattle.vo_laws.specs.Columns.{HaveColumns}
 use Rattle.vo_laws.specs.FittingTables.{HasKinds, FitsTable}
-use Rattle.vo_laws.proofs.ReplyTrees.{AreBelow, HasCells}
+use Rattle.vo_laws.proofs.ReplyTrees.{AreBelow, HasCells, have_below}
 
 -- how many cells a row of this schema has
 abbrev pub cells_of : Schema → ℕ
@@ -83,3 +84,7 @@ named_cells_below ss q bound_source rows fits =
         let lt : column < 0 + length (schema_at ss bound_source).columns =
         each_of (λ c. c < 0 + length (schema_at ss bound_source).columns) (numbers_from 0 (length (schema_at ss bound_source).columns)) (numbers_below 0 (length (schema_at ss bound_source).columns)) column f.0 in
         fits.columns column (omega arith) (not-true (column == (schema_at ss bound_source).key) (and_parts (not (column == (schema_at ss bound_source).key)) (is_named_column ss q bound_source column) f.1).0)
+
+-- so the rows of the left table have what the query asks for
+pub named_have : (ss : List BoundSource) (q : Query) (rows : List Row) → NamedFits (schema_at ss 0) rows → HaveColumns rows (uncut_need ss q)
+named_have ss q rows fits = have_below (cells_of (schema_at ss 0)) (uncut_need ss q) rows (named_cells_below ss q 0 rows fits) fits.cells

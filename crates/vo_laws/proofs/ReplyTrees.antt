@@ -37,15 +37,16 @@ AreBounded n = AllByRecursion (λ (need : Need). AreBelow n need.columns)
 abbrev pub HasCells : ℕ → Row → Type 0
 HasCells n row = length row.cells ≡ n
 
-rows_have : (n : ℕ) (need : Need) (rows : List Row) → AreBelow n need.columns → AllByRecursion (HasCells n) rows → HaveColumns rows need
-rows_have n need [] below cells = tt
-rows_have n need (row ∷ rows) below cells = (λ inside. subst (λ k. AreBelow k need.columns) (sym cells.0) below, rows_have n need rows below cells.1)
+-- rows of so many cells have the columns of a need that are below that
+pub have_below : (n : ℕ) (need : Need) (rows : List Row) → AreBelow n need.columns → AllByRecursion (HasCells n) rows → HaveColumns rows need
+have_below n need [] below cells = tt
+have_below n need (row ∷ rows) below cells = (λ inside. subst (λ k. AreBelow k need.columns) (sym cells.0) below, have_below n need rows below cells.1)
 
 pub pruned_complete : (n : ℕ) (needs : List Need) (t : RowTree) (rows : List Row) → Represents t rows → AreBounded n needs → AllByRecursion (HasCells n) rows
     → is_missing needs (prune_tree needs t) ≡ false
 pruned_complete n needs t rows stands all cells =
     (pruned_canonical needs t rows stands
-    (each_weaker (λ (need : Need). AreBelow n need.columns) (HaveColumns rows) (λ need below. rows_have n need rows below cells) needs all)).complete
+    (each_weaker (λ (need : Need). AreBelow n need.columns) (HaveColumns rows) (λ need below. have_below n need rows below cells) needs all)).complete
 
 -- Shape.
 

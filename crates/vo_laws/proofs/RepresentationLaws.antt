@@ -20,7 +20,7 @@ use Rattle.vo_spec.specs.Honest.{Stored, RepresentsTable, RepresentTables, store
 use Rattle.vo_laws.proofs.ListLaws.{zip_filter}
 pub use Rattle.vo_laws.proofs.TableSteps.{InStep}
 use Rattle.vo_laws.proofs.TableSteps.{is_doubled, create_in_step, made_stands, insert_in_step, update_in_step, delete_in_step}
-use Rattle.vo_laws.proofs.ExactOutcomes.{one_table_header}
+use Rattle.vo_laws.proofs.TablesByName.{one_table_header}
 use Rattle.vo_laws.proofs.CommandLaws.{table_there, insertable, key_inserted, dropped_fit, created_fit}
 use Rattle.vo_laws.specs.FittingTables.{FitsTable, FitTables}
 use Rattle.vo_laws.proofs.TableChanges.{rows_changed_fit, inserted_fit, updatable, updated_table_fits, removed_table_fits}

@@ -195,7 +195,7 @@ as_source table alias = record { table = table; alias = alias }
 
 -- SELECT .. FROM t WHERE ..
 abbrev one_table : List Ref → Option Condition → Query
-one_table refs condition = record { items = Refs refs; left = alone (codes "t"); join = None; condition = condition }
+one_table refs condition = record { items = Refs refs; left = alone (codes "t"); join = None; condition = condition; limit = None }
 
 abbrev names_above_one : Query
 names_above_one = one_table (plain (codes "name") ∷ []) (Some (test (comparison (plain (codes "id")) cmp.Gt (Literal (int 1)))))
@@ -205,12 +205,24 @@ unfolding result u64_bytes u64_of
 above_one = refl
 
 -- every column, by `*`
-all_columns : result (record { items = All; left = alone (codes "t"); join = None; condition = None }) two_rows
+all_columns : result (record { items = All; left = alone (codes "t"); join = None; condition = None; limit = None }) two_rows
     ≡ Rows (codes "id" ∷ codes "name" ∷ []) ((int 1 ∷ text (codes "ann") ∷ []) ∷ (int 3 ∷ text (codes "bob") ∷ []) ∷ [])
 unfolding result u64_bytes u64_of
 all_columns = refl
 
-absent_table : result (record { items = All; left = alone (codes "t"); join = None; condition = None }) [] ≡ Wrong (wrong.NoTable (codes "t"))
+-- the first row alone, and none behind the last
+abbrev up_to : ℕ → Query
+up_to n = record { items = All; left = alone (codes "t"); join = None; condition = None; limit = Some n }
+
+first_row : result (up_to 1) two_rows ≡ Rows (codes "id" ∷ codes "name" ∷ []) ((int 1 ∷ text (codes "ann") ∷ []) ∷ [])
+unfolding result u64_bytes u64_of
+first_row = refl
+
+both_rows : result (up_to 9) two_rows ≡ Rows (codes "id" ∷ codes "name" ∷ []) ((int 1 ∷ text (codes "ann") ∷ []) ∷ (int 3 ∷ text (codes "bob") ∷ []) ∷ [])
+unfolding result u64_bytes u64_of
+both_rows = refl
+
+absent_table : result (record { items = All; left = alone (codes "t"); join = None; condition = None; limit = None }) [] ≡ Wrong (wrong.NoTable (codes "t"))
 unfolding result
 absent_table = refl
 
@@ -223,7 +235,7 @@ unfolding result
 kinds_differ = refl
 
 abbrev with_itself : List ℕ → List Ref → Ref → Ref → Query
-with_itself table refs a b = record { items = Refs refs; left = as_source table (codes "a"); join = Some (record { right = as_source table (codes "b"); left_ref = a; right_ref = b }); condition = None }
+with_itself table refs a b = record { items = Refs refs; left = as_source table (codes "a"); join = Some (record { right = as_source table (codes "b"); left_ref = a; right_ref = b }); condition = None; limit = None }
 
 ambiguous : result (with_itself (codes "t") (plain (codes "name") ∷ []) (of (codes "a") (codes "id")) (of (codes "b") (codes "id"))) two_rows ≡ Wrong (wrong.Ambiguous (plain (codes "name")))
 unfolding result

@@ -204,6 +204,14 @@ complete needs need p i h = step (is_empty_interval need.interval) refl
         node_shown needs need (at_root needs) p i
         (in_filter (λ n. not (is_empty_interval n.interval)) needs need i (not_from_false (is_empty_interval need.interval) e)) h
 
+-- so a part tree that misses nothing shows for each of them what the tree that it prunes shows
+pub part_seen : (needs : List Need) (need : Need) (p t : RowTree) → Prunes p t → IsIn need needs → is_missing needs p ≡ false → seen need p ≡ seen need t
+part_seen needs need p t z i full = step (seen need p) (complete needs need p i full) (sound need p t z)
+  where
+    step : (o : Option (List SeenRow)) → Shows o → IsNoneOrSame o (seen need t) → o ≡ seen need t
+    step None s g = absurd s
+    step (Some xs) s g = sym g
+
 -- Of a whole tree a scan is a filter of its entries.
 
 joined_nothing : (xs : Option (List SeenRow)) → append_both (Some []) xs ≡ xs

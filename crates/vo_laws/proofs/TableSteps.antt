@@ -31,7 +31,7 @@ use Rattle.vo_spec.specs.Honest.{Stored, RepresentsTable, RepresentTables, put_s
 use Rattle.vo_laws.proofs.ListLaws.{each_weaker, each_map}
 use Rattle.vo_laws.specs.Changing.{Changes}
 use Rattle.vo_laws.proofs.RepresentingTrees.{Inserts, inserted_stands, removed_stands, replaced_stands}
-use Rattle.vo_laws.proofs.ExactOutcomes.{nothing_stands}
+use Rattle.vo_laws.proofs.TablesByName.{nothing_stands}
 use Rattle.vo_laws.proofs.CommandLaws.{each_filter, each_put_row}
 use Rattle.vo_laws.specs.FittingTables.{names_of}
 use Rattle.vo_laws.proofs.TableChanges.{others_kept}

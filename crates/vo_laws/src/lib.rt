@@ -5,10 +5,11 @@
 pub mod changes;
 pub mod digests;
 pub mod journals;
+pub mod limits;
 pub mod needs;
 pub mod scans;
 
-ghost use Rattle.std.specs.Prelude.{◌≡◌, ◌≢◌, ℕ, ◌^◌, ◌≤◌, ◌<◌, List, [], ◌∷◌, None, Ok, length};
+ghost use Rattle.std.specs.Prelude.{◌≡◌, ◌≢◌, ◌⊎◌, ℕ, ◌^◌, ◌≤◌, ◌<◌, List, [], ◌∷◌, None, Ok, length};
 ghost use Rattle.std.specs.List.{AllByRecursion, AllZip};
 ghost use Rattle.vo_spec.specs.declared.needs.Need.{Need};
 ghost use Rattle.vo_spec.specs.declared.records.Catalog.{Catalog};
@@ -25,7 +26,7 @@ ghost use Rattle.vo_spec.specs.Collides.{Collides};
 ghost use Rattle.vo_spec.specs.Tables.{tables_after};
 ghost use Rattle.vo_spec.specs.Conditions.{Query, FitsQuery};
 ghost use Rattle.vo_spec.specs.Results.{BoundSource, bound_sources, result as result_of};
-ghost use Rattle.vo_spec.specs.Needs.{uncut_need, left_need, needs, tree_at};
+ghost use Rattle.vo_spec.specs.Needs.{left_need, needs, tree_at};
 ghost use Rattle.vo_spec.specs.Scans.{seen};
 ghost use Rattle.vo_spec.specs.Pruning.{prune_tree};
 ghost use Rattle.vo_spec.specs.Representation.{Represents};
@@ -34,13 +35,14 @@ ghost use Rattle.vo_spec.specs.Journals.{max_signature};
 ghost use Rattle.vo_spec.specs.Replies.{Reply, FitsReply};
 ghost use Rattle.vo_spec.specs.Checks.{answer_to, seen_outcome, missing_fault};
 ghost use Rattle.vo_spec.specs.Honest.{Stored, RepresentTables, catalog_of, honest_record, honest_reply, honest_trees, trees_for};
+ghost use Rattle.vo_laws.specs.FittingTables.{FitTables};
 
 /// Where each tree of a reply prunes the whole tree of its table, nothing is missing, and the whole
 /// trees stand for plain tables, the outcome that the trees show is the query's result on these
-/// tables.
+/// tables. With a limit that takes tables within their limits, whose rows have all their columns.
 pub fn complete_proofs_show_the_result()
     ensures { (q : Query) (r : Reply) (stored : List Stored) (tables : List Table)
-        → RepresentTables stored tables → FitsQuery q
+        → RepresentTables stored tables → (q.limit ≡ None) ⊎ FitTables tables → FitsQuery q
         → r.catalog ≡ catalog_of stored → AllZip Prunes r.trees (trees_for q stored)
         → missing_fault q r ≡ None
         → seen_outcome q r.catalog r.trees ≡ result_of q tables }
@@ -77,7 +79,8 @@ pub fn honest_replies_are_accepted()
 {}
 
 /// A scan of a tree's proof for one need gives what a scan of the whole tree gives, where the rows
-/// have the need's columns; so a store finds a query's needs from the proof for its left need.
+/// have the need's columns; so a query's needs are found from the proof for its left need as from
+/// the whole tree.
 pub fn proofs_show_what_their_need_sees()
     ensures seen { (cells : ℕ) (need : Need) (t : RowTree) (rows : List Row) → Represents t rows
         → AllByRecursion (λ column. column < cells) need.columns
@@ -85,7 +88,9 @@ pub fn proofs_show_what_their_need_sees()
         → seen need (prune_tree (need ∷ []) t) ≡ seen need t }
     ensures by_seen { (ss : List BoundSource) (q : Query) (trees : List RowTree)
         (others : List RowTree)
-        → seen (uncut_need ss q) (tree_at trees 0) ≡ seen (uncut_need ss q) (tree_at others 0)
+        → let left : RowTree = tree_at trees 0 in let other : RowTree = tree_at others 0 in
+        left_need ss q left ≡ left_need ss q other
+        → seen (left_need ss q left) left ≡ seen (left_need ss q left) other
         → needs ss q trees ≡ needs ss q others }
     ensures needs { (batches : List (List Command)) (q : Query) (others : List RowTree)
         → AllByRecursion FitsBatch batches
