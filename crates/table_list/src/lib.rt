@@ -12,6 +12,7 @@ mod nulls;
 mod refusal;
 mod rows;
 mod sets;
+mod shown;
 mod tables;
 
 pub use cells::cell_number;
@@ -25,4 +26,5 @@ pub use lookup::{command_name, table_named};
 pub use new_rows::{key_at, row_of};
 pub use nulls::{allows, is_nullable_at};
 pub use refusal::{TableHeaderRef, first_refusal};
+pub use shown::may_show;
 pub use tables::{Tables, apply, apply_batch};
