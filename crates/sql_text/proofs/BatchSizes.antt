@@ -63,10 +63,11 @@ module _ (N : Nests sql) where
   unfolding literal
   worth =
       light_either N (light_means N (light_token N (λ t real e. number_size t real)))
+      (light_either N (light_means N (light_token N (λ t real e. number_size t real)))
       (light_either N (light_means N (light_token N (λ t real e. quoted_size t real)))
       (light_either N (light_means N (light_token N (λ t real e. omega (arith, some_byte t.text t real))))
       (light_either N (light_means N (light_token N (λ t real e. omega (arith, some_byte t.text t real))))
-      (light_means N (light_token N (λ t real e. omega (arith, some_byte t.text t real)))))))
+      (light_means N (light_token N (λ t real e. omega (arith, some_byte t.text t real))))))))
 
   kind_light : Light N column_kind (λ _. 1)
   unfolding column_kind

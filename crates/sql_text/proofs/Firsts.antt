@@ -8,7 +8,7 @@ use Rattle.sql_tokens.specs.Kinds.{same_kind}
 use Rattle.sql_tokens.specs.Lex.{Token}
 use Rattle.sql_text.specs.Tokens.{sql}
 use Rattle.sql_text.specs.Rules.{before, optional}
-use Rattle.sql_text.specs.Queries.{name, reference, null_clause, join}
+use Rattle.sql_text.specs.Queries.{name, reference, null_clause, join, limit_clause, joined_clauses}
 use Rattle.sql_text.specs.Commands.{create, drop_table, insert, update, delete, command}
 
 pub first_name : first name ≡ k.Name ∷ []
@@ -31,10 +31,14 @@ pub first_alias : (left : List Token) → begins sql (k.As ∷ k.Name ∷ []) le
 first_alias [] = refl
 first_alias (t ∷ left) = or_two (same_kind k.As t.kind) (same_kind k.Name t.kind)
 
-pub first_join : (left : List Token) → begins sql (first join) left ≡ (begins sql (k.Inner ∷ []) left || begins sql (k.Join ∷ []) left)
-unfolding join optional before
-first_join [] = refl
-first_join (t ∷ left) = or_two (same_kind k.Inner t.kind) (same_kind k.Join t.kind)
+pub first_joined : (left : List Token) → begins sql (first joined_clauses) left ≡ (begins sql (k.Inner ∷ []) left || begins sql (k.Join ∷ []) left)
+unfolding joined_clauses join optional before
+first_joined [] = refl
+first_joined (t ∷ left) = or_two (same_kind k.Inner t.kind) (same_kind k.Join t.kind)
+
+pub first_limit : first limit_clause ≡ k.Limit ∷ []
+unfolding limit_clause before
+first_limit = refl
 
 -- the kinds that commands begin with
 pub first_create : first create ≡ k.Create ∷ []

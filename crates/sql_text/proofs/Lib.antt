@@ -1,4 +1,5 @@
 pub mod Firsts
+pub mod Failures
 pub mod Rounds
 pub mod Conds
 pub mod Closing

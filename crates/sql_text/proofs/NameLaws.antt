@@ -17,7 +17,8 @@ module _ (W : Condition → Type 0) where
   pub literal_fits : (v : Value) → Made IsSound W literal v → FitsValue v
   unfolding literal
   literal_fits v (inl (t, ((real, _), _), e)) = subst FitsValue (sym e) (number_fits t.text t real)
-  literal_fits v (inr (inl (t, (sound, kind), e))) = subst FitsValue (sym e) (value_fits t sound kind)
-  literal_fits v (inr (inr (inl (t, _, e)))) = subst FitsValue (sym e) tt
+  literal_fits v (inr (inl (t, ((real, _), _), e))) = subst FitsValue (sym e) (number_fits t.text t real)
+  literal_fits v (inr (inr (inl (t, (sound, kind), e)))) = subst FitsValue (sym e) (value_fits t sound kind)
   literal_fits v (inr (inr (inr (inl (t, _, e))))) = subst FitsValue (sym e) tt
-  literal_fits v (inr (inr (inr (inr (t, _, e))))) = subst FitsValue (sym e) tt
+  literal_fits v (inr (inr (inr (inr (inl (t, _, e)))))) = subst FitsValue (sym e) tt
+  literal_fits v (inr (inr (inr (inr (inr (t, _, e)))))) = subst FitsValue (sym e) tt

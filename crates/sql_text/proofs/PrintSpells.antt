@@ -1,6 +1,7 @@
 -- What is printed is spelled by the rules of the grammar, with the value that was printed.
-use Rattle.std.proofs.Common.{◌≡◌, ℕ, zero, suc, ◌≤◌, max, Bool, true, false, List, [], ◌∷◌, ◌++◌, length, drop, Option, Some, None, refl, sym, ap, ◌∙◌, subst, inl, inr, arith, append_assoc}
-use Rattle.std.specs.Prelude.{flat_map, nat_lt, IfSome}
+use Rattle.std.proofs.Common.{◌≡◌, ℕ, zero, suc, ◌≤◌, max, Bool, true, false, cond, ℤ, pos, List, [], ◌∷◌, ◌++◌, length, drop, Option, Some, None, refl, sym, ap, ◌∙◌, subst, inl, inr, arith, append_assoc}
+use Rattle.std.specs.Prelude.{flat_map, nat_lt, int_le, ◌&&◌, IfSome}
+use Rattle.std.proofs.lemmas.Bool.{le-leb}
 use Rattle.std.specs.Option.{option_map_or}
 use Rattle.std.specs.List.{AllByRecursion}
 use Rattle.std.proofs.lemmas.List.{append-nil}
@@ -9,7 +10,7 @@ use Rattle.grammar.specs.Text.{Repeats, Spells, NestsIn, IsText}
 use Rattle.sql_tokens.specs.declared.kinds.TokenKind.{TokenKind}
 use Rattle.sql_tokens.specs.declared.kinds.TokenKind.TheVariants as k
 use Rattle.sql_tokens.specs.Kinds.{spelling}
-use Rattle.sql_tokens.specs.Lex.{Token, token_at}
+use Rattle.sql_tokens.specs.Lex.{Token, token_at, integer_kind}
 use Rattle.vo_spec.specs.declared.values.Value.{Value}
 use Rattle.vo_spec.specs.declared.values.Value.TheVariants as value
 use Rattle.vo_spec.specs.declared.queries.Ref.{Ref}
@@ -27,9 +28,10 @@ use Rattle.sql_text.specs.Tokens.{sql, IsToken, whole}
 use Rattle.sql_text.specs.Rules as rule
 use Rattle.sql_text.specs.Queries as query
 use Rattle.sql_text.specs.Queries.{conditions_of, all_of, any_of}
-use Rattle.sql_text.specs.Printing.{word, name_token, literal_token, separate_by, terminate_by, parens, reference_tokens, source_tokens, operator, operand_tokens, null_tokens, test_tokens, is_enclosed, parenthesize, condition_tokens, parts_tokens, items_tokens, join_tokens, where_tokens, query_tokens}
-use Rattle.sql_text.specs.Spellable.{FreeName, SpellableRef, SpellableSource, SpellableOperand, SpellableTest, HasTwo, SpellableCondition, SpellableParts, deeper, levels_of, levels_in, SpellableItems, SpellableJoin, SpellableQuery}
-use Rattle.sql_text.proofs.PrintTokens.{name_folded, name_is, integer_is, quoted_is, unquoted_again}
+use Rattle.sql_text.specs.Printing.{word, name_token, integer_token, literal_token, separate_by, terminate_by, parens, reference_tokens, source_tokens, operator, operand_tokens, null_tokens, test_tokens, is_enclosed, parenthesize, condition_tokens, parts_tokens, items_tokens, join_tokens, where_tokens, limit_tokens, query_tokens}
+use Rattle.sql_text.specs.Spellable.{FreeName, SpellableRef, SpellableSource, SpellableOperand, SpellableTest, HasTwo, SpellableCondition, SpellableParts, deeper, levels_of, levels_in, SpellableItems, SpellableJoin, SpellableLimit, SpellableQuery}
+use Rattle.sql_text.proofs.TokenSounds.{and_true}
+use Rattle.sql_text.proofs.PrintTokens.{name_folded, name_is, unsigned_is, integer_is, quoted_is, unquoted_again}
 
 -- keywords and symbols are tokens
 pub word_is : (kind : TokenKind) → nat_lt 0 (length (spelling kind)) ≡ true → IsToken (word kind)
@@ -81,6 +83,7 @@ word_is k.Greater e = refl
 word_is k.GreaterEqual e = refl
 word_is k.Name e = absurd (cc)
 word_is k.Integer e = absurd (cc)
+word_is k.RowCount e = absurd (cc)
 word_is k.Quoted e = absurd (cc)
 
 -- a text of the rule with at most so many levels inside it
@@ -157,13 +160,21 @@ pub spell_name : (n : ℕ) (v : List ℕ) → FreeName v → Text n query.name (
 unfolding query.name
 spell_name n v h = (name_token v, (name_is v h.0 h.1, refl, refl), name_folded v h.0)
 
+spell_integer : (n : ℕ) (z : ℤ) → IsToken (integer_token z) → Text n query.literal (integer_token z ∷ []) (value.Int z)
+unfolding query.literal
+spell_integer n z real = by_rows (int_le (pos 1) z && int_le z (pos 4294967295)) refl
+  where
+    by_rows : (b : Bool) → (int_le (pos 1) z && int_le z (pos 4294967295)) ≡ b → Text n query.literal (integer_token z ∷ []) (value.Int z)
+    by_rows true e = inr (inl (integer_token z, (real, ap (λ b. cond b k.RowCount k.Integer) e, refl), refl))
+    by_rows false e = inl (integer_token z, (real, ap (λ b. cond b k.RowCount k.Integer) e, refl), refl)
+
 pub spell_literal : (n : ℕ) (v : Value) → FitsValue v → Text n query.literal (literal_token v ∷ []) v
 unfolding query.literal
-spell_literal n (value.Int z) h = inl (literal_token (value.Int z), (integer_is z h, refl, refl), refl)
-spell_literal n (value.Text s) h = inr (inl (literal_token (value.Text s), (quoted_is s h, refl, refl), ap (λ z. value.Text z) (unquoted_again s)))
-spell_literal n (value.Bool true) h = inr (inr (inl (word k.True, (word_is k.True refl, refl, refl), refl)))
-spell_literal n (value.Bool false) h = inr (inr (inr (inl (word k.False, (word_is k.False refl, refl, refl), refl))))
-spell_literal n value.Null h = inr (inr (inr (inr (word k.Null, (word_is k.Null refl, refl, refl), refl))))
+spell_literal n (value.Int z) h = spell_integer n z (integer_is z h)
+spell_literal n (value.Text s) h = inr (inr (inl (literal_token (value.Text s), (quoted_is s h, refl, refl), ap (λ z. value.Text z) (unquoted_again s))))
+spell_literal n (value.Bool true) h = inr (inr (inr (inl (word k.True, (word_is k.True refl, refl, refl), refl))))
+spell_literal n (value.Bool false) h = inr (inr (inr (inr (inl (word k.False, (word_is k.False refl, refl, refl), refl)))))
+spell_literal n value.Null h = inr (inr (inr (inr (inr (word k.Null, (word_is k.Null refl, refl, refl), refl)))))
 
 by_qualifier : (n : ℕ) (q : Option (List ℕ)) (c : List ℕ) → IfSome q FreeName → FreeName c
     → Text n query.reference (reference_tokens (record { qualifier = q; column = c })) (record { qualifier = q; column = c })
@@ -405,38 +416,57 @@ spell_join n j h =
       refl,
     )
 
-spell_joins : (n : ℕ) (o : Option Join) → IfSome o SpellableJoin → Text n (rule.optional query.join) (option_map_or join_tokens o []) o
-spell_joins n None h = spell_none n query.join
-spell_joins n (Some j) h = spell_some n query.join (join_tokens j) j (spell_join n j h)
-
 spell_where : (n : ℕ) (o : Option Condition) → IfSome o (λ c. SpellableCondition c × (levels_of c ≤ n)) → Text n (rule.optional (rule.before k.Where query.disj)) (option_map_or where_tokens o []) o
 spell_where n None h = spell_none n (rule.before k.Where query.disj)
 spell_where n (Some c) h =
     spell_some n (rule.before k.Where query.disj) (where_tokens c) c (spell_before n k.Where query.disj (condition_tokens c) c (word_is k.Where refl) (spell_condition n c h.0 h.1))
 
-query_from : (q : Query) (items source joins condition : List Token) → Text 32 query.items items q.items → Text 32 query.source source q.left
-    → Text 32 (rule.optional query.join) joins q.join → Text 32 (rule.optional (rule.before k.Where query.disj)) condition q.condition
-    → Text 32 query.query (word k.Select ∷ items ++ word k.From ∷ source ++ joins ++ condition) q
-unfolding query.query
-query_from q items source joins condition i s j c = (
-  (q.items, (q.left, (q.join, (q.condition, None)))),
-  (
-    word k.Select ∷ items,
-    (word k.From ∷ source) ++ (joins ++ condition),
-    append_assoc ((word k.Select ∷ items) ++ (word k.From ∷ source)) joins condition ∙ append_assoc (word k.Select ∷ items) (word k.From ∷ source) (joins ++ condition),
-    spell_before 32 k.Select query.items items q.items (word_is k.Select refl) i,
-    (
-      word k.From ∷ source,
-      joins ++ condition,
+row_count_kind : (rows : ℕ) → 1 ≤ rows → rows ≤ 4294967295 → integer_kind (pos rows) ≡ k.RowCount
+row_count_kind rows least most = ap (λ b. cond b k.RowCount k.Integer) (and_true _ _ (le-leb 1 rows least) (le-leb rows 4294967295 most))
+
+spell_limit : (n rows : ℕ) → 1 ≤ rows → rows ≤ 4294967295 → Text n query.limit_clause (limit_tokens rows) rows
+unfolding query.limit_clause
+spell_limit n rows least most =
+    spell_before n k.Limit _ (integer_token (pos rows) ∷ []) rows (word_is k.Limit refl)
+    (integer_token (pos rows), (unsigned_is rows (omega arith), row_count_kind rows least most, refl), omega arith)
+
+spell_clauses : (n : ℕ) (j : Option Join) (c : Option Condition) (rows : Option ℕ) → IfSome j SpellableJoin → IfSome c (λ c. SpellableCondition c × (levels_of c ≤ n)) → SpellableLimit j rows
+    → Text n query.clauses (option_map_or join_tokens j [] ++ option_map_or where_tokens c [] ++ option_map_or limit_tokens rows []) (j, c, rows)
+unfolding query.clauses query.joined_clauses query.single_clauses
+spell_clauses n None c None h g f =
+    inr ((c, None), (option_map_or where_tokens c [], [], refl, spell_where n c g, spell_none n query.limit_clause), refl)
+spell_clauses n None c (Some rows) h g f =
+    inr ((c, Some rows), (option_map_or where_tokens c [], limit_tokens rows, refl, spell_where n c g, spell_some n query.limit_clause (limit_tokens rows) rows (spell_limit n rows f.0 f.1)), refl)
+spell_clauses n (Some j) c None h g f =
+    inl ((j, c), (join_tokens j, option_map_or where_tokens c [], append-nil (join_tokens j ++ option_map_or where_tokens c []), spell_join n j h, spell_where n c g), refl)
+spell_clauses n (Some j) c (Some rows) h g f = absurd f
+
+query_from : (q : Query) (items source joins condition limit : List Token) → Text 32 query.items items q.items → Text 32 query.source source q.left
+    → Text 32 query.clauses (joins ++ condition ++ limit) (q.join, q.condition, q.limit)
+    → Text 32 query.query (word k.Select ∷ items ++ word k.From ∷ source ++ joins ++ condition ++ limit) q
+unfolding query.query query.clauses_to_end
+query_from q items source joins condition limit i s c =
+    let front : List Token = (word k.Select ∷ items) ++ (word k.From ∷ source) in
+    let clauses : List Token = joins ++ condition ++ limit in (
+      (q.items, (q.left, (q.join, q.condition, q.limit))),
+      (
+        word k.Select ∷ items,
+        (word k.From ∷ source) ++ clauses,
+        ap (λ z. z ++ limit) (append_assoc front joins condition) ∙ append_assoc front (joins ++ condition) limit
+            ∙ append_assoc (word k.Select ∷ items) (word k.From ∷ source) clauses,
+        spell_before 32 k.Select query.items items q.items (word_is k.Select refl) i,
+        (
+          word k.From ∷ source,
+          clauses,
+          refl,
+          spell_before 32 k.From query.source source q.left (word_is k.From refl) s,
+          (((q.join, q.condition, q.limit), None), (clauses, [], sym (append-nil clauses), c, spell_none 32 (token k.Semicolon)), refl),
+        ),
+      ),
       refl,
-      spell_before 32 k.From query.source source q.left (word_is k.From refl) s,
-      (joins, condition, refl, j, (condition, [], sym (append-nil condition), c, spell_none 32 (token k.Semicolon))),
-    ),
-  ),
-  refl,
-)
+    )
 
 pub spell_query : (q : Query) → SpellableQuery q → IsText conditions_of true 32 query.query (query_tokens q) q
 spell_query q h =
-    query_from q (items_tokens q.items) (source_tokens q.left) (option_map_or join_tokens q.join []) (option_map_or where_tokens q.condition [])
-    (spell_items 32 q.items h.items) (spell_source 32 q.left h.left) (spell_joins 32 q.join h.join) (spell_where 32 q.condition h.condition)
+    query_from q (items_tokens q.items) (source_tokens q.left) (option_map_or join_tokens q.join []) (option_map_or where_tokens q.condition []) (option_map_or limit_tokens q.limit [])
+    (spell_items 32 q.items h.items) (spell_source 32 q.left h.left) (spell_clauses 32 q.join q.condition q.limit h.join h.condition h.limit)

@@ -14,7 +14,7 @@ use Rattle.std.proofs.lemmas.Str.Parse.{IsNumeralModel, numerals_by_value, tells
 use Rattle.sql_tokens.specs.declared.kinds.TokenKind.TheVariants as k
 use Rattle.sql_tokens.specs.declared.lexemes.TokenFault.TheVariants as lapse
 use Rattle.sql_tokens.specs.Kinds.{keyword}
-use Rattle.sql_tokens.specs.Lex.{is_letter, is_word_byte, keyword_or_name, integer_value, integer, closing_len, single_quotes, quoted_value, fits_text, string_token, token_at}
+use Rattle.sql_tokens.specs.Lex.{is_letter, is_word_byte, keyword_or_name, integer_value, integer_kind, integer, closing_len, single_quotes, quoted_value, fits_text, string_token, token_at}
 use Rattle.sql_tokens.proofs.Alone.{letter_at, digit_at, minus_at, quote_at}
 use Rattle.vo_spec.specs.declared.values.Value.TheVariants as value
 use Rattle.vo_spec.specs.Names.{is_digit, is_name_byte, FitsName}
@@ -130,7 +130,7 @@ minus_value ds h = ap (λ c. cond c (Some (neg_ℤ (pos (digits_value 10 ds)))) 
     is_most x y g = grind (arith, nat_tests)
 
 plain_is : (n : ℕ) → n < 2 ^ 63 → (ds : List ℕ) → all_ascii_digits ds ≡ true → 0 < length ds → digits_value 10 ds ≡ n
-    → token_at ds ≡ Ok (record { kind = k.Integer; text = ds; number = pos n })
+    → token_at ds ≡ Ok (record { kind = integer_kind (pos n); text = ds; number = pos n })
 plain_is n h [] e f g = absurd (omega arith)
 plain_is n h (b ∷ ds) e f g =
     let first = both (is_ascii_digit b) (all_ascii_digits ds) e in
@@ -139,7 +139,7 @@ plain_is n h (b ∷ ds) e f g =
     ∙ ap (λ o. integer o (b ∷ ds)) (plain_value b ds plain.1 (subst (λ x. x < 2 ^ 63) (sym g) h) ∙ ap (λ x. Some (pos x)) g)
 
 minus_is : (n : ℕ) → suc n ≤ 2 ^ 63 → (ds : List ℕ) → all_ascii_digits ds ≡ true → 0 < length ds → digits_value 10 ds ≡ suc n
-    → token_at (45 ∷ ds) ≡ Ok (record { kind = k.Integer; text = 45 ∷ ds; number = negsuc n })
+    → token_at (45 ∷ ds) ≡ Ok (record { kind = integer_kind (negsuc n); text = 45 ∷ ds; number = negsuc n })
 minus_is n h [] e f g = absurd (omega arith)
 minus_is n h (b ∷ ds) e f g =
     let first = both (is_ascii_digit b) (all_ascii_digits ds) e in
@@ -148,11 +148,13 @@ minus_is n h (b ∷ ds) e f g =
     minus_at 45 (b ∷ ds) refl refl first.0 ∙ ap (λ w. integer (integer_value w) w) run
     ∙ ap (λ o. integer o (45 ∷ b ∷ ds)) (minus_value (b ∷ ds) (subst (λ x. x ≤ 2 ^ 63) (sym g) h) ∙ ap (λ x. Some (neg_ℤ (pos x))) g)
 
-pub integer_is : (z : ℤ) → FitsValue (value.Int z) → IsToken (integer_token z)
-integer_is (pos n) h =
-    let small : n < 2 ^ 63 = omega arith in
+pub unsigned_is : (n : ℕ) → n < 2 ^ 63 → IsToken (integer_token (pos n))
+unsigned_is n small =
     let wide : n < 2 ^ 64 = omega arith in
     plain_is n small (decimal n) (digits_decimal own n wide) (decimal_nonempty n wide) (digits_value-decimal own n wide)
+
+pub integer_is : (z : ℤ) → FitsValue (value.Int z) → IsToken (integer_token z)
+integer_is (pos n) h = unsigned_is n (omega arith)
 integer_is (negsuc n) h =
     let small : suc n ≤ 2 ^ 63 = omega arith in
     let wide : suc n < 2 ^ 64 = omega arith in

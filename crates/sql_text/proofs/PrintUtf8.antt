@@ -1,5 +1,5 @@
 -- Printed texts are UTF-8 where the names and texts in them are.
-use Rattle.std.proofs.Common.{◌≡◌, ℕ, ◌≤◌, ◌<◌, Bool, true, false, cond, List, [], ◌∷◌, ◌++◌, drop, Option, Some, None, ℤ, pos, negsuc, refl, sym, ap, ◌∙◌, subst, arith, w64}
+use Rattle.std.proofs.Common.{◌≡◌, ℕ, ◌≤◌, ◌<◌, ◌^◌, Bool, true, false, cond, List, [], ◌∷◌, ◌++◌, drop, Option, Some, None, ℤ, pos, negsuc, refl, sym, ap, ◌∙◌, subst, arith, w64}
 use Rattle.std.specs.Prelude.{◌==◌, nat_lt, flat_map, FitsSigned, IfSome}
 use Rattle.std.specs.Option.{option_map_or}
 use Rattle.std.specs.List.{AllByRecursion, list_all}
@@ -36,7 +36,7 @@ use Rattle.vo_spec.specs.Names.{is_name_byte, FitsName}
 use Rattle.vo_spec.specs.Values.{FitsValue}
 use Rattle.vo_spec.specs.Batches.{FitsColumn, FitsSet, FitsCommand, FitsBatch}
 use Rattle.vo_spec.specs.Conditions.{every, some, negated, test, none, more, of_tests_in, comparison, null_test, NameTest, Condition, Conditions, Query}
-use Rattle.sql_text.specs.Printing.{word, name_token, literal_token, quoted_byte, separate_by, terminate_by, parens, reference_tokens, source_tokens, operator, operand_tokens, null_tokens, test_tokens, is_enclosed, parenthesize, condition_tokens, parts_tokens, items_tokens, join_tokens, where_tokens, query_tokens, kind_word, mark_tokens, column_tokens, set_tokens, key_tokens, columns_tokens, command_tokens, batch_tokens, spaces_between, query_text, batch_text}
+use Rattle.sql_text.specs.Printing.{word, name_token, literal_token, quoted_byte, separate_by, terminate_by, parens, reference_tokens, source_tokens, operator, operand_tokens, null_tokens, test_tokens, is_enclosed, parenthesize, condition_tokens, parts_tokens, items_tokens, join_tokens, where_tokens, limit_tokens, query_tokens, kind_word, mark_tokens, column_tokens, set_tokens, key_tokens, columns_tokens, command_tokens, batch_tokens, spaces_between, query_text, batch_text}
 use Rattle.sql_text.specs.Printable.{PrintableRef, PrintableSource, PrintableItems, PrintableJoin, PrintableOperand, PrintableTest, tests_of, PrintableQuery}
 use Rattle.sql_text.proofs.Made.{all_both, all_parts}
 use Rattle.sql_text.proofs.PrintTokens.{name_small}
@@ -210,15 +210,22 @@ where_utf8 : (o : Option Condition) → AreTests (option_map_or tests_of o []) �
 where_utf8 None h = tt
 where_utf8 (Some c) h = (word_utf8 k.Where refl, condition_utf8 c h)
 
-pub query_utf8 : (q : Query) → PrintableQuery q → IsUtf8 (query_text q)
+limit_utf8 : (o : Option ℕ) → IfSome o (λ rows. rows < 2 ^ 32) → AreUtf8 (option_map_or limit_tokens o [])
+limit_utf8 None h = tt
+limit_utf8 (Some rows) h = (word_utf8 k.Limit refl, (IsUtf8-from_ascii (signed_decimal (pos rows)) (IsAscii-signed (pos rows) (omega (arith, h))), tt))
+
+pub query_utf8 : (q : Query) → PrintableQuery q → IfSome q.limit (λ rows. rows < 2 ^ 32) → IsUtf8 (query_text q)
 unfolding query_text
-query_utf8 q h =
+query_utf8 q h few =
     spaced_utf8 (query_tokens q)
+    (joined ((word k.Select ∷ items_tokens q.items) ++ (word k.From ∷ source_tokens q.left) ++ option_map_or join_tokens q.join [] ++ option_map_or where_tokens q.condition [])
+    (option_map_or limit_tokens q.limit [])
     (joined ((word k.Select ∷ items_tokens q.items) ++ (word k.From ∷ source_tokens q.left) ++ option_map_or join_tokens q.join []) (option_map_or where_tokens q.condition [])
     (joined ((word k.Select ∷ items_tokens q.items) ++ (word k.From ∷ source_tokens q.left)) (option_map_or join_tokens q.join [])
     (joined (word k.Select ∷ items_tokens q.items) (word k.From ∷ source_tokens q.left) (word_utf8 k.Select refl, items_utf8 q.items h.items) (word_utf8 k.From refl, source_utf8 q.left h.left))
     (joins_utf8 q.join h.join))
     (where_utf8 q.condition h.tests))
+    (limit_utf8 q.limit few))
 
 -- Commands.
 

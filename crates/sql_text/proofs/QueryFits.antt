@@ -25,7 +25,7 @@ use Rattle.vo_spec.specs.Values.{FitsValue, IsInRange}
 use Rattle.vo_spec.specs.Conditions.{every, some, negated, test, none, more, comparison, null_test, NameTest, Condition, Conditions, conditions, sides, of_tests_in, comparisons, Query, query_of, FitsOperand, FitsQuery}
 use Rattle.sql_text.specs.Tokens.{sql, Nested, whole, primary}
 use Rattle.sql_text.specs.Rules.{before, followed_by, optional}
-use Rattle.sql_text.specs.Queries.{name, reference, ref_of, source, source_of, operand, test_end, name_test, prim, conj, disj, all_of, any_of, conditions_of, items, on_clause, join, query}
+use Rattle.sql_text.specs.Queries.{name, reference, ref_of, source, source_of, operand, test_end, name_test, prim, conj, disj, all_of, any_of, conditions_of, items, on_clause, join, joined_clauses, single_clauses, clauses, clauses_to_end, query}
 use Rattle.sql_text.specs.Texts.{without_places, IsTextOf, AnswersText}
 use Rattle.sql_text.specs.Printable.{PrintableRef, PrintableSource, PrintableItems, PrintableJoin, PrintableOperand, PrintableTest, tests_of, PrintableQuery}
 use Rattle.sql_text.proofs.Made.{Made, made, of_before, of_listed, all_both, all_parts, all_mapped}
@@ -139,19 +139,27 @@ join_fits j (x, (_, m), e) =
     let refs = behind k.On _ x.1.1 parts.1 in
     subst PrintableJoin (sym e) (source_fits x.1.0 parts.0, ref_fits x.1.1.0 refs.0, ref_fits x.1.1.1 (behind k.Equal reference x.1.1.1 refs.1))
 
-joins_fit : (o : Option Join) → MadeFit (optional join) o → IfSome o PrintableJoin
-unfolding optional
-joins_fit o (inl (j, m, e)) = subst (λ z. IfSome z PrintableJoin) (sym e) (join_fits j m)
-joins_fit o (inr e) = subst (λ z. IfSome z PrintableJoin) (sym e) tt
+abbrev FitClauses : Option Join × Option Condition × Option ℕ → Type 0
+FitClauses x = IfSome x.0 PrintableJoin × AreTests (option_map_or tests_of x.1 [])
+
+clauses_fit : (x : Option Join × Option Condition × Option ℕ) → MadeFit clauses x → FitClauses x
+unfolding clauses joined_clauses single_clauses
+clauses_fit x (inl (y, (j, c), e)) = subst FitClauses (sym e) (join_fits y.0 j, where_fits y.1 c)
+clauses_fit x (inr (y, (c, _), e)) = subst FitClauses (sym e) (tt, where_fits y.0 c)
+
+query_end_fits : (x : Option Join × Option Condition × Option ℕ) → MadeFit clauses_to_end x → FitClauses x
+unfolding clauses_to_end
+query_end_fits x (y, (c, _), e) = subst FitClauses (sym e) (clauses_fit y.0 c)
 
 made_fits : (q : Query) → MadeFit query q → PrintableQuery q
 unfolding query
-made_fits q (x, (i, (s, (j, (m, _)))), e) =
+made_fits q (x, (i, (s, c)), e) =
+    let fit = query_end_fits x.1.1 c in
     subst PrintableQuery (sym e) (record {
       items = items_fit x.0 (behind k.Select items x.0 i);
       left = source_fits x.1.0 (behind k.From source x.1.0 s);
-      join = joins_fit x.1.1.0 j;
-      tests = where_fits x.1.1.1.0 m;
+      join = fit.0;
+      tests = fit.1;
     })
 
 -- the query of a text can be printed

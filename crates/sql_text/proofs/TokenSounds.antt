@@ -1,7 +1,7 @@
 -- Names and texts of a text's tokens fit: a name has 1 to 63 bytes of names, a text is UTF-8 within
 -- its limits.
 use Rattle.std.proofs.Common.{◌≡◌, ℕ, zero, suc, ◌+◌, ◌-◌, ◌≤◌, ◌<◌, Bool, true, false, cond, List, [], ◌∷◌, ◌++◌, length, take, drop, get_or, map, Option, Some, None, Result, Ok, Err, ℤ, pos, refl, sym, ap, ◌∙◌, subst, ◌⊎◌, inl, inr, arith}
-use Rattle.std.specs.Prelude.{slice_index, option_map, ◌==◌, nat_le, nat_lt, not, ◌&&◌, ◌||◌, find}
+use Rattle.std.specs.Prelude.{slice_index, option_map, ◌==◌, nat_le, nat_lt, not, ◌&&◌, ◌||◌, find, int_le}
 use Rattle.std.specs.List.{prefix_len, list_all, AllByRecursion}
 use Rattle.std.specs.Char.{to_ascii_lowercase}
 use Rattle.std.specs.Str.{str_to_ascii_lowercase, str_eq_ignore_ascii_case, IsUtf8, IsCharBoundary}
@@ -157,9 +157,14 @@ no_symbol t (Some kind) real e h =
     let none : t.text ≡ [] = sym (ap text_in h) ∙ ap (λ z. take (length z) t.text) (ap spelling same ∙ e) in
     none_at_end t (subst (λ z. token_at z ≡ Ok t) none real)
 
-no_integer : (o : Option ℤ) (text : List ℕ) (t : Token) → integer o text ≡ Ok t → k.Integer ≡ t.kind
-no_integer (Some n) text t h = ap kind_in h
-no_integer None text t h = absurd (cc)
+-- an integer's token is of one of two kinds
+no_integer : (o : Option ℤ) (text : List ℕ) (t : Token) (kind : TokenKind) → integer o text ≡ Ok t → t.kind ≡ kind → (k.Integer ≡ kind → ⊥) → (k.RowCount ≡ kind → ⊥) → ⊥
+no_integer (Some n) text t kind h e plain rows = by_rows (int_le (pos 1) n && int_le n (pos 4294967295)) (ap kind_in h ∙ e)
+  where
+    by_rows : (b : Bool) → cond b k.RowCount k.Integer ≡ kind → ⊥
+    by_rows true f = rows f
+    by_rows false f = plain f
+no_integer None text t kind h e plain rows = absurd (cc)
 
 is_quoted : (o : Option ℕ) (z : List ℕ) (t : Token) → string_token o z ≡ Ok t → k.Quoted ≡ t.kind
 is_quoted None z t h = absurd (cc)
@@ -196,7 +201,7 @@ name_fits t real kind = by_reading (read_as t.text t real)
 
     by_reading : ReadAs t.text t → FitsName (str_to_ascii_lowercase t.text)
     by_reading (inl (l, e)) = by_keyword (keyword (word_of t.text)) refl l e
-    by_reading (inr (inl (text, e))) = let same : k.Integer ≡ k.Name = no_integer _ text t e ∙ kind in absurd (cc)
+    by_reading (inr (inl (text, e))) = absurd (no_integer _ text t k.Name e kind (λ f. cc) (λ f. cc))
     by_reading (inr (inr (inl (_, e)))) = let same : k.Quoted ≡ k.Name = is_quoted _ t.text t e ∙ kind in absurd (cc)
     by_reading (inr (inr (inr e))) = absurd (no_symbol t _ real (ap spelling kind) e)
 
@@ -361,6 +366,6 @@ value_fits t (real, u) kind = by_reading (read_as t.text t real)
 
     by_reading : ReadAs t.text t → FitsValue (value.Text (quoted_value t.text))
     by_reading (inl (l, e)) = by_keyword (keyword (word_of t.text)) refl e
-    by_reading (inr (inl (text, e))) = let same : k.Integer ≡ k.Quoted = no_integer _ text t e ∙ kind in absurd (cc)
+    by_reading (inr (inl (text, e))) = absurd (no_integer _ text t k.Quoted e kind (λ f. cc) (λ f. cc))
     by_reading (inr (inr (inl (q, e)))) = by_closing (closing_len false (drop 1 t.text)) refl q e
     by_reading (inr (inr (inr e))) = absurd (no_symbol t _ real (ap spelling kind) e)

@@ -5,7 +5,7 @@ use Rattle.std.specs.Option.{option_map_or}
 use Rattle.sql_tokens.specs.declared.kinds.TokenKind.{TokenKind}
 use Rattle.sql_tokens.specs.declared.kinds.TokenKind.TheVariants as k
 use Rattle.sql_tokens.specs.Kinds.{spelling, same_kind}
-use Rattle.sql_tokens.specs.Lex.{Token}
+use Rattle.sql_tokens.specs.Lex.{Token, integer_kind}
 use Rattle.vo_spec.specs.declared.values.Kind.{Kind}
 use Rattle.vo_spec.specs.declared.values.Kind.TheVariants as kind_of
 use Rattle.vo_spec.specs.declared.values.Value.{Value}
@@ -35,7 +35,11 @@ abbrev pub name_token : List ℕ → Token
 name_token name = record { kind = k.Name; text = name; number = pos 0 }
 
 abbrev pub integer_token : ℤ → Token
-integer_token number = record { kind = k.Integer; text = signed_decimal number; number = number }
+integer_token number = record {
+  kind = integer_kind number;
+  text = signed_decimal number;
+  number = number;
+}
 
 -- two quotes for one
 abbrev pub quoted_byte : ℕ → List ℕ
@@ -138,10 +142,14 @@ join_tokens j = word k.Join ∷ source_tokens j.right ++ word k.On ∷ reference
 abbrev pub where_tokens : Condition → List Token
 where_tokens c = word k.Where ∷ condition_tokens c
 
+abbrev pub limit_tokens : ℕ → List Token
+limit_tokens rows = word k.Limit ∷ integer_token (pos rows) ∷ []
+
 abbrev pub query_tokens : Query → List Token
 query_tokens q =
     word k.Select ∷ items_tokens q.items ++ word k.From ∷ source_tokens q.left
     ++ option_map_or join_tokens q.join [] ++ option_map_or where_tokens q.condition []
+    ++ option_map_or limit_tokens q.limit []
 
 -- Commands.
 

@@ -1,10 +1,10 @@
 -- The grammar of queries. Each rule is a line of it, and `means` says what value its text has.
-use Rattle.std.specs.Prelude.{ℕ, ◌-◌, Bool, true, false, List, [], ◌∷◌, Option, Some, None}
+use Rattle.std.specs.Prelude.{ℕ, ◌-◌, min, ℤ, unsigned_abs, Bool, true, false, List, [], ◌∷◌, Option, Some, None}
 use Rattle.std.specs.Str.{str_to_ascii_lowercase}
 use Rattle.grammar.specs.Rule.{Rule, Grammar, token, both, either, means, inside}
 use Rattle.sql_tokens.specs.declared.kinds.TokenKind.{TokenKind}
 use Rattle.sql_tokens.specs.declared.kinds.TokenKind.TheVariants as k
-use Rattle.sql_tokens.specs.Lex.{quoted_value}
+use Rattle.sql_tokens.specs.Lex.{quoted_value, max_row_count}
 use Rattle.vo_spec.specs.declared.values.Value.{Value}
 use Rattle.vo_spec.specs.declared.values.Value.TheVariants as value
 use Rattle.vo_spec.specs.declared.queries.Ref.{Ref}
@@ -25,14 +25,15 @@ use Rattle.sql_text.specs.Rules.{before, followed_by, optional, flag, list_of}
 unfoldable pub name : Rule sql (List ℕ)
 name = means (λ t. str_to_ascii_lowercase t.text) (token k.Name)
 
--- integer | string | TRUE | FALSE | NULL
+-- integer | string | TRUE | FALSE | NULL, where an integer may be one that LIMIT takes
 unfoldable pub literal : Rule sql Value
 literal =
     either (means (λ t. value.Int t.number) (token k.Integer))
+    (either (means (λ t. value.Int t.number) (token k.RowCount))
     (either (means (λ t. value.Text (quoted_value t.text)) (token k.Quoted))
     (either (means (λ t. value.Bool true) (token k.True))
     (either (means (λ t. value.Bool false) (token k.False))
-    (means (λ t. value.Null) (token k.Null)))))
+    (means (λ t. value.Null) (token k.Null))))))
 
 -- the column of a name alone, or of a qualifier and a name
 abbrev pub ref_of : List ℕ → Option (List ℕ) → Ref
@@ -131,9 +132,39 @@ join =
     means (λ x. record { right = x.1.0; left_ref = x.1.1.0; right_ref = x.1.1.1 })
     (both (optional (token k.Inner)) (before k.Join (both source on_clause)))
 
--- SELECT items FROM source [ join ] [ WHERE cond ] [;]
+-- how many rows the number is; an integer that LIMIT takes is so many as it says
+abbrev pub rows_of : ℤ → ℕ
+rows_of number = min (unsigned_abs number) max_row_count
+
+-- LIMIT rows
+unfoldable pub limit_clause : Rule sql ℕ
+limit_clause = before k.Limit (means (λ t. rows_of t.number) (token k.RowCount))
+
+-- join [ WHERE cond ]
+unfoldable pub joined_clauses : Rule sql (Option Join × Option Condition × Option ℕ)
+joined_clauses = means (λ x. (Some x.0, x.1, None)) (both join (optional (before k.Where disj)))
+
+-- [ WHERE cond ] [ LIMIT rows ]
+unfoldable pub single_clauses : Rule sql (Option Join × Option Condition × Option ℕ)
+single_clauses = means (λ x. (None, x.0, x.1))
+    (both (optional (before k.Where disj)) (optional limit_clause))
+
+-- what may stand behind the first source: beside a join there is no limit
+unfoldable pub clauses : Rule sql (Option Join × Option Condition × Option ℕ)
+clauses = either joined_clauses single_clauses
+
+-- clauses [;]
+unfoldable pub clauses_to_end : Rule sql (Option Join × Option Condition × Option ℕ)
+clauses_to_end = means (λ x. x.0) (both clauses (optional (token k.Semicolon)))
+
+-- SELECT items FROM source clauses [;]
 unfoldable pub query : Rule sql Query
 query =
-    means (λ x. record { items = x.0; left = x.1.0; join = x.1.1.0; condition = x.1.1.1.0 })
-    (both (before k.Select items) (both (before k.From source)
-    (both (optional join) (both (optional (before k.Where disj)) (optional (token k.Semicolon))))))
+    means (λ x. record {
+      items = x.0;
+      left = x.1.0;
+      join = x.1.1.0;
+      condition = x.1.1.1;
+      limit = x.1.1.2;
+    })
+    (both (before k.Select items) (both (before k.From source) clauses_to_end))

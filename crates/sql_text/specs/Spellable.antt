@@ -1,9 +1,10 @@
 -- The queries and batches that are read again as they were printed.
-use Rattle.std.specs.Prelude.{◌≡◌, ℕ, zero, suc, ◌≤◌, max, Bool, true, false, List, length, None, IfSome}
+use Rattle.std.specs.Prelude.{◌≡◌, ℕ, zero, suc, ◌≤◌, max, Bool, true, false, List, length, Option, Some, None, IfSome}
 use Rattle.std.specs.List.{AllByRecursion}
 use Rattle.sql_tokens.specs.declared.kinds.TokenKind.{TokenKind}
 use Rattle.sql_tokens.specs.declared.kinds.TokenKind.TheVariants as k
 use Rattle.sql_tokens.specs.Kinds.{keyword}
+use Rattle.sql_tokens.specs.Lex.{max_row_count}
 use Rattle.vo_spec.specs.declared.queries.Ref.{Ref}
 use Rattle.vo_spec.specs.declared.queries.Source.{Source}
 use Rattle.vo_spec.specs.declared.queries.Join.{Join}
@@ -85,11 +86,18 @@ SpellableItems (items_of.Refs refs) = (1 ≤ length refs) × (length refs ≤ ma
 abbrev pub SpellableJoin : Join → Type 0
 SpellableJoin j = SpellableSource j.right × SpellableRef j.left_ref × SpellableRef j.right_ref
 
+-- at least one row, and not beside a join
+abbrev pub SpellableLimit : {J : Type 0} → Option J → Option ℕ → Type 0
+SpellableLimit join None = Unit {0}
+SpellableLimit None (Some rows) = (1 ≤ rows) × (rows ≤ max_row_count)
+SpellableLimit (Some j) (Some rows) = ⊥
+
 pub record SpellableQuery (q : Query) : Type 0 where
   pub items : SpellableItems q.items
   pub left : SpellableSource q.left
   pub join : IfSome q.join SpellableJoin
   pub condition : IfSome q.condition (λ c. SpellableCondition c × (levels_of c ≤ max_nesting))
+  pub limit : SpellableLimit q.join q.limit
   pub size : length (query_text q) ≤ max_sql_bytes
 
 -- Commands.

@@ -1,6 +1,7 @@
 //! SQL texts: read by their grammar, and printed.
 #![tactic(auto)]
 
+mod clauses;
 mod commands;
 mod conditions;
 mod faults;

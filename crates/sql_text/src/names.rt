@@ -73,6 +73,8 @@ impl<'a> Parser<'a> {
     {
         if self.sees(TokenKind::Integer) {
             Ok(Value::Int(self.take(TokenKind::Integer).number))
+        } else if self.sees(TokenKind::RowCount) {
+            Ok(Value::Int(self.take(TokenKind::RowCount).number))
         } else if self.sees(TokenKind::Quoted) {
             let token = self.take(TokenKind::Quoted);
             Ok(Value::Text(unquote(alloc, token.text)?))

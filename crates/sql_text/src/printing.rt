@@ -17,7 +17,8 @@ pub trait Print {
         ensures { OnOk result (out.new.items ≡ out.old.items ++ text_of (tokens self.now)) };
 }
 
-fn put(out: &mut Vec<u8>, text: &[u8]) -> Result<(), AllocError>
+/// Puts a token's text at the end.
+pub fn put(out: &mut Vec<u8>, text: &[u8]) -> Result<(), AllocError>
     ensures { OnOk result (out.new.items ≡ out.old.items ++ text.now ++ 32 ∷ []) }
 {
     out.extend_from_slice(text)?;

@@ -1,5 +1,5 @@
 //! Printing queries.
-ghost use Rattle.std.specs.Prelude.{◌≡◌, [], ◌∷◌, ◌++◌, drop, map, option_map, string_bytes, IfOk, OnOk};
+ghost use Rattle.std.specs.Prelude.{◌≡◌, [], ◌∷◌, ◌++◌, drop, map, option_map, string_bytes, IfOk, OnOk, IfSome, ◌<◌, ◌^◌};
 ghost use Rattle.std.specs.Option.{option_map_or};
 ghost use Rattle.vo_spec.specs.Conditions.{negated, condition_of, conditions, query_of};
 ghost use Rattle.sql_text.specs.Queries.{query as query_rule};
@@ -7,9 +7,9 @@ ghost use Rattle.sql_text.specs.Limits.{max_sql_bytes};
 ghost use Rattle.sql_text.specs.Texts.{IsTextOf};
 ghost use Rattle.sql_text.specs.Printable.{PrintableQuery};
 ghost use Rattle.sql_text.specs.Spellable.{SpellableQuery};
-ghost use Rattle.sql_text.specs.Printing.{word, reference_tokens, source_tokens, operator, operand_tokens, null_tokens, is_enclosed, parenthesize, condition_tokens, parts_tokens, items_tokens, join_tokens, where_tokens, query_tokens, query_text, text_of};
+ghost use Rattle.sql_text.specs.Printing.{word, reference_tokens, source_tokens, operator, operand_tokens, null_tokens, is_enclosed, parenthesize, condition_tokens, parts_tokens, items_tokens, join_tokens, where_tokens, limit_tokens, query_tokens, query_text, text_of};
 
-use crate::printing::{Print, print_separated, put_word, without_last_blank};
+use crate::printing::{Print, print_separated, put, put_word, without_last_blank};
 use sql_tokens::TokenKind;
 use std::alloc::{AllocError, Global};
 use vo_spec::{Cmp, Cond, Items, Join, Operand, QueryText, Ref, Source};
@@ -220,17 +220,32 @@ fn print_where(alloc: Global, out: &mut Vec<u8>, cond: &Option<Cond>) -> Result<
     }
 }
 
-impl Print for QueryText {
-    ghost tokens = { λ query. query_tokens (query_of query) };
-
-    fn print(&self, alloc: Global, out: &mut Vec<u8>) -> Result<(), AllocError> {
-        put_word(out, TokenKind::Select)?;
-        self.items.print(alloc, out)?;
-        put_word(out, TokenKind::From)?;
-        self.left.print(alloc, out)?;
-        print_join(alloc, out, &self.join)?;
-        print_where(alloc, out, &self.cond)
+fn print_limit(alloc: Global, out: &mut Vec<u8>, limit: Option<u32>) -> Result<(), AllocError>
+    ensures printed { OnOk result (out.new.items ≡ out.old.items
+        ++ text_of (option_map_or limit_tokens limit [])) }
+    ensures fits { OnOk result (IfSome limit (λ rows. rows < 2 ^ 32)) }
+{
+    match limit {
+        Some(rows) => {
+            put_word(out, TokenKind::Limit)?;
+            put(out, rows.to_string(alloc)?.as_bytes())
+        }
+        None => Ok(()),
     }
+}
+
+fn print_clauses(alloc: Global, out: &mut Vec<u8>, query: &QueryText) -> Result<(), AllocError>
+    ensures printed { OnOk result (out.new.items ≡ out.old.items
+        ++ text_of (query_tokens (query_of query.now))) }
+    ensures fits { OnOk result (IfSome query.now.limit (λ rows. rows < 2 ^ 32)) }
+{
+    put_word(out, TokenKind::Select)?;
+    query.items.print(alloc, out)?;
+    put_word(out, TokenKind::From)?;
+    query.left.print(alloc, out)?;
+    print_join(alloc, out, &query.join)?;
+    print_where(alloc, out, &query.cond)?;
+    print_limit(alloc, out, query.limit)
 }
 
 /// The query's text: its tokens with one blank between each two.
@@ -242,7 +257,7 @@ pub fn print_query(alloc: Global, query: &QueryText) -> Result<String, AllocErro
         (query_of query.now)) }
 {
     let mut out = Vec::new(alloc);
-    query.print(alloc, &mut out)?;
+    print_clauses(alloc, &mut out, query)?;
     // That the bytes are UTF-8 is proved, so they aren't read once more to see it.
     Ok(unsafe { String::from_utf8_unchecked(without_last_blank(out)) })
 }

@@ -8,13 +8,13 @@ ghost use Rattle.vo_spec.specs.Conditions.{condition_of, query_of};
 ghost use Rattle.sql_text.specs.Tokens.{sql};
 ghost use Rattle.sql_text.specs.Parsing.{left_of, Reads, KeepsLevels, KeepsTokens};
 ghost use Rattle.sql_text.specs.Rules.{before, optional, flag};
-ghost use Rattle.sql_text.specs.Queries.{reference, source, items, on_clause, join, disj, query, conditions_of};
+ghost use Rattle.sql_text.specs.Queries.{source, items, clauses_to_end, query, conditions_of};
 
 use crate::parse_error::ParseError;
 use crate::parser::Parser;
 use sql_tokens::{Lexeme, TokenKind};
 use std::alloc::Global;
-use vo_spec::{Cond, Items, Join, List, QueryText, Ref, Source};
+use vo_spec::{Cond, Items, Join, List, QueryText, Source};
 
 impl<'a> Parser<'a> {
     /// A token of this kind, if it is next.
@@ -61,75 +61,6 @@ impl<'a> Parser<'a> {
         }
     }
 
-    /// = reference
-    #[tactic(auto, unfolding(crate::specs::Rules::before))]
-    fn equal_reference(&mut self, alloc: Global) -> Result<Ref, ParseError>
-        ensures value { Reads (λ x. x) (before k.Equal reference) self.old result self.new }
-        ensures levels { KeepsLevels self.old self.new }
-        ensures list { KeepsTokens self.old self.new }
-    {
-        self.expect(TokenKind::Equal)?;
-        self.reference(alloc)
-    }
-
-    /// ON reference = reference
-    #[tactic(auto, unfolding(crate::specs::Queries::on_clause, crate::specs::Rules::before))]
-    fn on_clause(&mut self, alloc: Global) -> Result<(Ref, Ref), ParseError>
-        ensures value { Reads (λ x. x) on_clause self.old result self.new }
-        ensures levels { KeepsLevels self.old self.new }
-        ensures list { KeepsTokens self.old self.new }
-    {
-        self.expect(TokenKind::On)?;
-        let left = self.reference(alloc)?;
-        let right = self.equal_reference(alloc)?;
-        Ok((left, right))
-    }
-
-    #[tactic(auto, unfolding(crate::specs::Queries::join, crate::specs::Rules::before))]
-    fn join(&mut self, alloc: Global) -> Result<Join, ParseError>
-        ensures value { Reads (λ x. x) join self.old result self.new }
-        ensures levels { KeepsLevels self.old self.new }
-        ensures list { KeepsTokens self.old self.new }
-    {
-        self.skip(TokenKind::Inner);
-        self.expect(TokenKind::Join)?;
-        let right = self.source(alloc)?;
-        let (left_ref, right_ref) = self.on_clause(alloc)?;
-        Ok(Join {
-            right,
-            left_ref,
-            right_ref,
-        })
-    }
-
-    #[tactic(auto, unfolding(crate::specs::Rules::optional), using(crate::proofs::Firsts::first_join))]
-    fn join_if_any(&mut self, alloc: Global) -> Result<Option<Join>, ParseError>
-        ensures value { Reads (λ x. x) (optional join) self.old result self.new }
-        ensures levels { KeepsLevels self.old self.new }
-        ensures list { KeepsTokens self.old self.new }
-    {
-        if self.sees(TokenKind::Inner) || self.sees(TokenKind::Join) {
-            Ok(Some(self.join(alloc)?))
-        } else {
-            Ok(None)
-        }
-    }
-
-    #[tactic(auto, unfolding(crate::specs::Rules::optional, crate::specs::Rules::before))]
-    fn condition_if_any(&mut self, alloc: Global) -> Result<Option<Cond>, ParseError>
-        ensures value { Reads (option_map condition_of)
-            (optional (before k.Where disj)) self.old result self.new }
-        ensures levels { OnOk result (KeepsLevels self.old self.new) }
-        ensures list { KeepsTokens self.old self.new }
-    {
-        if self.sees(TokenKind::Where) {
-            self.take(TokenKind::Where);
-            Ok(Some(self.disj(alloc)?))
-        } else {
-            Ok(None)
-        }
-    }
-
     /// SELECT items
     #[tactic(auto, unfolding(crate::specs::Rules::before))]
     fn select_clause(&mut self, alloc: Global) -> Result<Items, ParseError>
@@ -152,20 +83,18 @@ impl<'a> Parser<'a> {
         self.source(alloc)
     }
 
-    /// What may stand behind the first source: a join, a condition and a semicolon.
-    fn clauses_if_any(
+    /// FROM source clauses [;]
+    fn from_to_end(
         &mut self,
         alloc: Global,
-    ) -> Result<(Option<Join>, Option<Cond>, Option<Lexeme<'a>>), ParseError>
-        ensures value { Reads (λ x. (x.0, (option_map condition_of x.1, option_map token_of x.2)))
-            (both (optional join) (both (optional (before k.Where disj))
-            (optional (token k.Semicolon)))) self.old result self.new }
+    ) -> Result<(Source, Option<Join>, Option<Cond>, Option<u32>), ParseError>
+        ensures value { Reads (λ x. (x.0, (x.1, option_map condition_of x.2, x.3)))
+            (both (before k.From source) clauses_to_end) self.old result self.new }
         ensures list { KeepsTokens self.old self.new }
     {
-        let join = self.join_if_any(alloc)?;
-        let cond = self.condition_if_any(alloc)?;
-        let end = self.skip(TokenKind::Semicolon);
-        Ok((join, cond, end))
+        let left = self.from_clause(alloc)?;
+        let (join, cond, limit) = self.clauses_to_end(alloc)?;
+        Ok((left, join, cond, limit))
     }
 
     #[tactic(auto, unfolding(crate::specs::Queries::query))]
@@ -174,13 +103,13 @@ impl<'a> Parser<'a> {
         ensures list { KeepsTokens self.old self.new }
     {
         let items = self.select_clause(alloc)?;
-        let left = self.from_clause(alloc)?;
-        let (join, cond, _) = self.clauses_if_any(alloc)?;
+        let (left, join, cond, limit) = self.from_to_end(alloc)?;
         Ok(QueryText {
             items,
             left,
             join,
             cond,
+            limit,
         })
     }
 }

@@ -56,6 +56,7 @@ kinds =
     ∷ k.GreaterEqual
     ∷ k.Name
     ∷ k.Integer
+    ∷ k.RowCount
     ∷ k.Quoted
     ∷ [])
 
@@ -111,6 +112,7 @@ kind_at-kind_number k.Greater = refl
 kind_at-kind_number k.GreaterEqual = refl
 kind_at-kind_number k.Name = refl
 kind_at-kind_number k.Integer = refl
+kind_at-kind_number k.RowCount = refl
 kind_at-kind_number k.Quoted = refl
 
 pub same_kind_true : (a b : TokenKind) → same_kind a b ≡ true → a ≡ b
@@ -168,4 +170,5 @@ some_token k.Greater = (record { kind = k.Greater; text = codes ">"; number = po
 some_token k.GreaterEqual = (record { kind = k.GreaterEqual; text = codes ">="; number = pos 0 }, refl, refl)
 some_token k.Name = (record { kind = k.Name; text = codes "a"; number = pos 0 }, refl, refl)
 some_token k.Integer = (record { kind = k.Integer; text = codes "0"; number = pos 0 }, refl, refl)
+some_token k.RowCount = (record { kind = k.RowCount; text = codes "1"; number = pos 1 }, refl, refl)
 some_token k.Quoted = (record { kind = k.Quoted; text = codes "''"; number = pos 0 }, refl, refl)

@@ -53,6 +53,7 @@ spelling k.Greater = codes ">"
 spelling k.GreaterEqual = codes ">="
 spelling k.Name = []
 spelling k.Integer = []
+spelling k.RowCount = []
 spelling k.Quoted = []
 
 -- the reserved words
@@ -146,7 +147,8 @@ kind_number k.Greater = 43
 kind_number k.GreaterEqual = 44
 kind_number k.Name = 45
 kind_number k.Integer = 46
-kind_number k.Quoted = 47
+kind_number k.RowCount = 47
+kind_number k.Quoted = 48
 
 abbrev pub same_kind : TokenKind → TokenKind → Bool
 same_kind a b = kind_number a == kind_number b

@@ -1,5 +1,5 @@
 -- The tokens of a text. Each is the longest that begins where it begins; blanks separate them.
-use Rattle.std.specs.Prelude.{ℕ, zero, suc, ◌+◌, ◌-◌, Bool, true, false, not, ◌&&◌, ◌||◌, ◌==◌, nat_le, nat_lt, if◌then◌else◌, List, [], ◌∷◌, length, take, drop, slice_index, Option, Some, None, option_map, Result, Ok, Err, ℤ, pos, neg_ℤ, ◌≡◌, ◌^◌, map, Vec}
+use Rattle.std.specs.Prelude.{ℕ, zero, suc, ◌+◌, ◌-◌, Bool, true, false, not, ◌&&◌, ◌||◌, ◌==◌, nat_le, nat_lt, if◌then◌else◌, List, [], ◌∷◌, length, take, drop, slice_index, Option, Some, None, option_map, Result, Ok, Err, ℤ, pos, neg_ℤ, ◌≡◌, ◌^◌, int_le, map, Vec}
 use Rattle.std.specs.Global.{Global}
 use Rattle.std.specs.List.{prefix_len, list_all}
 use Rattle.std.specs.Char.{is_ascii_alphabetic, is_ascii_digit}
@@ -54,9 +54,19 @@ integer_value text =
     then (if nat_le size (2 ^ 63) then Some (neg_ℤ (pos size)) else None)
     else (if nat_lt size (2 ^ 63) then Some (pos size) else None)
 
+-- how many rows LIMIT takes at most
+abbrev pub max_row_count : ℕ
+max_row_count = 4294967295
+
+-- an integer that may stand behind LIMIT is of a kind of its own
+abbrev pub integer_kind : ℤ → TokenKind
+integer_kind number = if int_le (pos 1) number && int_le number (pos max_row_count)
+    then k.RowCount else k.Integer
+
 abbrev pub integer : Option ℤ → List ℕ → Result Token TokenFault
 integer None text = Err lapse.Literal
-integer (Some number) text = Ok (record { kind = k.Integer; text = text; number = number })
+integer (Some number) text = Ok
+    (record { kind = integer_kind number; text = text; number = number })
 
 -- how many bytes a quoted text goes on for behind its first quote, where `second` says that the
 -- byte before was a quote that may be its last; two quotes stand for one

@@ -53,6 +53,8 @@ pub enum TokenKind {
     /// A word that is not reserved.
     Name,
     Integer,
+    /// An integer that may stand behind LIMIT.
+    RowCount,
     /// A text in single quotes.
     Quoted,
 }
@@ -145,7 +147,7 @@ impl TokenKind {
             TokenKind::LessEqual => b"<=",
             TokenKind::Greater => b">",
             TokenKind::GreaterEqual => b">=",
-            TokenKind::Name | TokenKind::Integer | TokenKind::Quoted => b"",
+            TokenKind::Name | TokenKind::Integer | TokenKind::RowCount | TokenKind::Quoted => b"",
         }
     }
 

@@ -48,7 +48,7 @@ fn number<'a>(text: &'a [u8], len: usize, at: usize) -> Result<Lexeme<'a>, Token
     let (text, _) = text.split_at(len);
     let number = words::integer_value(text).ok_or(TokenFault::Literal)?;
     Ok(Lexeme {
-        kind: TokenKind::Integer,
+        kind: words::integer_kind(number),
         text,
         number,
         at,

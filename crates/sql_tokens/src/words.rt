@@ -5,10 +5,13 @@ ghost use Rattle.std.specs.Str.{str_eq_ignore_ascii_case};
 ghost use Rattle.std.specs.List.{prefix_len, list_all};
 ghost use Rattle.std.specs.Char.{is_ascii_digit};
 ghost use Rattle.sql_tokens.specs.Kinds.{keyword, spelling};
-ghost use Rattle.sql_tokens.specs.Lex.{is_blank, is_letter, is_word_byte, closing_len, single_quotes, symbol, digits, integer_value, fits_text};
+ghost use Rattle.sql_tokens.specs.Lex.{is_blank, is_letter, is_word_byte, closing_len, single_quotes, symbol, digits, integer_value, integer_kind, fits_text};
 
 use crate::kinds::{KEYWORDS, TokenKind};
 use vo_spec::MAX_TEXT;
+
+/// How many rows LIMIT takes at most.
+const MAX_ROW_COUNT: i64 = 4_294_967_295;
 
 pub fn is_blank(byte: u8) -> bool
     ensures { result ≡ is_blank byte }
@@ -126,6 +129,17 @@ pub fn integer_value(text: &[u8]) -> Option<i64>
         return None;
     };
     number.parse::<i64>().ok()
+}
+
+/// The kind of an integer's token.
+pub fn integer_kind(number: i64) -> TokenKind
+    ensures { result ≡ integer_kind number }
+{
+    if 1 <= number && number <= MAX_ROW_COUNT {
+        TokenKind::RowCount
+    } else {
+        TokenKind::Integer
+    }
 }
 
 /// How many bytes the text between two quotes stands for.

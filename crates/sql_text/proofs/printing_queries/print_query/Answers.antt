@@ -10,13 +10,13 @@ use Rattle.sql_text.proofs.printing_queries.print_query.Goals as goal
 pub from_utf8_unchecked-requires : goal.from_utf8_unchecked-requires
 from_utf8_unchecked-requires c =
     subst IsUtf8
-    (sym (query_printed (query_of c.args.query.now) c.new-out.result.items c.print.new.out.items c.without_last_blank.result.items c.new-out.ensures.items c.in_ok-print.ensures c.without_last_blank.ensures))
-    (query_utf8 (query_of c.args.query.now) c.requires)
+    (sym (query_printed (query_of c.args.query.now) c.new-out.result.items c.print_clauses.new.out.items c.without_last_blank.result.items c.new-out.ensures.items c.in_ok-print_clauses.ensures.printed c.without_last_blank.ensures))
+    (query_utf8 (query_of c.args.query.now) c.requires c.in_ok-print_clauses.ensures.fits)
 
 pub returns-clause-printed : goal.returns-clause-printed
 returns-clause-printed c =
     ap (λ v. v.items) c.from_utf8_unchecked.ensures.value
-    ∙ query_printed (query_of c.args.query.now) c.new-out.result.items c.print.new.out.items c.without_last_blank.result.items c.new-out.ensures.items c.in_ok-print.ensures c.without_last_blank.ensures
+    ∙ query_printed (query_of c.args.query.now) c.new-out.result.items c.print_clauses.new.out.items c.without_last_blank.result.items c.new-out.ensures.items c.in_ok-print_clauses.ensures.printed c.without_last_blank.ensures
 
 pub returns-clause-reads : goal.returns-clause-reads
 returns-clause-reads c h =

@@ -1,8 +1,0 @@
-use Rattle.std.proofs.Common.{arith}
-use Rattle.std.proofs.lemmas.Grind.{common_steps}
-use Rattle.sql_text.specs.Queries.{query}
-use Rattle.sql_text.proofs.parser.Parser.query.Goals as goal
-
-pub returns-clause-value : goal.returns-clause-value
-unfolding query
-returns-clause-value c = grind (arith, common_steps)
