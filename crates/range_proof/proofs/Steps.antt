@@ -30,20 +30,20 @@ rest_at xs i = drop-drop 1 i xs
 -- Separators and children as they are seen.
 
 module _ {K : Type 0} (key : K → List ℕ) where
-  first_seen : (ss : List K) (i : ℕ) → slice_get (map key (drop i ss)) 0 ≡ slice_get (map key ss) i
+  pub first_seen : (ss : List K) (i : ℕ) → slice_get (map key (drop i ss)) 0 ≡ slice_get (map key ss) i
   first_seen [] zero = refl
   first_seen [] (suc i) = refl
   first_seen (s ∷ ss) zero = refl
   first_seen (s ∷ ss) (suc i) = first_seen ss i
 
-  rest_seen : (ss : List K) (i : ℕ) → drop 1 (map key (drop i ss)) ≡ map key (drop (i + 1) ss)
+  pub rest_seen : (ss : List K) (i : ℕ) → drop 1 (map key (drop i ss)) ≡ map key (drop (i + 1) ss)
   rest_seen ss i = drop-map key 1 (drop i ss) ∙ ap (map key) (drop-drop 1 i ss)
 
 module _ {N : Type 0} (tree : N → RowTree) where
-  kid_at : (ns : List N) (i : ℕ) (n : N) → i < length ns → n ≡ get_or ns i n → row_kids tree (drop i ns) ≡ more tt (tree n) (row_kids tree (drop (i + 1) ns))
+  pub kid_at : (ns : List N) (i : ℕ) (n : N) → i < length ns → n ≡ get_or ns i n → row_kids tree (drop i ns) ≡ more tt (tree n) (row_kids tree (drop (i + 1) ns))
   kid_at ns i n lt is = ap (row_kids tree) (drop_more ns i n lt) ∙ ap (λ m. more tt (tree m) (row_kids tree (drop (i + 1) ns))) (sym is)
 
-  no_kid_at : (ns : List N) (i : ℕ) → length ns ≤ i → row_kids tree (drop i ns) ≡ none
+  pub no_kid_at : (ns : List N) (i : ℕ) → length ns ≤ i → row_kids tree (drop i ns) ≡ none
   no_kid_at ns i h = ap (row_kids tree) (drop_all i ns h)
 
   pub kid_falls : (ns : List N) (i : ℕ) (n : N) → i < length ns → n ≡ get_or ns i n → levels (tree n) ≤ levels_in (row_kids tree ns)

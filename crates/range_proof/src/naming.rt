@@ -12,7 +12,7 @@ ghost use Rattle.range_proof.specs.Lending.{lent_need};
 use key_intervals::in_interval;
 use mb_tree::RowEntry;
 use std::alloc::{AllocError, Global};
-use vo_spec::{Cell, Need, PartEntry, RowPart};
+use vo_spec::{Cell, Need, RowPart};
 
 /// The columns that the needs name whose intervals have the key.
 pub fn named_columns(alloc: Global, needs: &[&Need], key: &[u8]) -> Result<Vec<u8>, AllocError>
@@ -39,8 +39,8 @@ pub fn columns_at<'n>(need: &'n Need, key: &[u8]) -> &'n [u8]
 }
 
 /// Whether the entry's row hides one of these columns.
-pub fn hides_any(columns: &[u8], entry: &PartEntry<'_>) -> bool
-    ensures { result ≡ does_hide columns.now entry.now.row }
+pub fn hides_any<E: RowEntry>(columns: &[u8], entry: &E) -> bool
+    ensures { result ≡ does_hide columns.now (E.entry entry.now).row }
 {
     for column in columns {
         if entry.shown_value(*column).is_none() {

@@ -69,7 +69,8 @@ fn scan_children<N: RowNode>(
     Ok(())
 }
 
-fn separator_at<K: KeyedItem>(separators: &[K], place: usize) -> Option<&[u8]>
+/// The separator behind the child at this place; none behind the last.
+pub fn separator_at<K: KeyedItem>(separators: &[K], place: usize) -> Option<&[u8]>
     ensures { option_copied result ≡ slice_get (map K.key separators.now) place }
 {
     match separators.get(place) {

@@ -3,10 +3,10 @@ use Rattle.std.proofs.lemmas.Grind.{common_steps}
 use Rattle.range_proof.proofs.naming.hides_any.Goals as goal
 
 pub returns-then-is_none : goal.returns-then-is_none
-returns-then-is_none c = grind (arith, common_steps)
+returns-then-is_none g c = grind (arith, common_steps)
 
 pub loop-column-preserved : goal.loop-column-preserved
-loop-column-preserved c = grind (arith, common_steps)
+loop-column-preserved g c = grind (arith, common_steps)
 
 pub returns : goal.returns
-returns c = grind (arith, common_steps)
+returns g c = grind (arith, common_steps)

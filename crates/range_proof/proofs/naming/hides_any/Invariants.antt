@@ -4,4 +4,4 @@ use Rattle.range_proof.proofs.naming.hides_any.Given as goal
 
 -- none of the columns so far is hidden
 abbrev pub invariant-loop-column : goal.invariant-loop-column
-invariant-loop-column l = hides_any (drop l.column-index l.columns) l.entry.row ≡ hides_any l.columns l.entry.row
+invariant-loop-column g l = hides_any (drop l.column-index l.columns) (g.E.RowEntry.entry l.entry).row ≡ hides_any l.columns (g.E.RowEntry.entry l.entry).row
