@@ -5,7 +5,7 @@ use Rattle.vo_spec.specs.declared.tables.Table.{Table}
 use Rattle.vo_spec.specs.declared.queries.Outcome.TheVariants.{Rows}
 use Rattle.vo_spec.specs.Conditions.{Query}
 use Rattle.vo_spec.specs.Tables.{TableHeader, table_header_of, table_header_named, table_named}
-use Rattle.vo_spec.specs.Results.{BoundSource, ColumnPlace, RowView, bound_sources, row_views_at, answer_rows, header, outcome, binding_fault, result}
+use Rattle.vo_spec.specs.Results.{BoundSource, ColumnPlace, RowView, bound_sources, row_views_at, first_rows, answer_rows, header, outcome, binding_fault, result}
 use Rattle.table_list.proofs.PlainLaws.{table_header_by_name}
 use Rattle.query_plan.specs.BoundConditions.{BoundCondition}
 use Rattle.query_plan.specs.BoundQueries.{BoundQuery, bound_query}
@@ -44,9 +44,9 @@ rights_same b late (Some on) tables lefts = refl
 
 pub plain_are : (b : BoundQuery) (tables : List Table) (left late : List BoundCondition) (lefts rights : List RowView)
     → left ≡ (plan_of b).left → late ≡ (plan_of b).late → lefts ≡ row_views_at tables b.bound_sources 0 → rights ≡ right_row_views b tables
-    → flat_map (left_answers b late b.join rights) (filter (meets left) lefts) ≡ plain_rows (plan_of b) tables
+    → first_rows b.limit (flat_map (left_answers b late b.join rights) (filter (meets left) lefts)) ≡ plain_rows (plan_of b) tables
 plain_are b tables left late lefts rights l a ls rs =
-    rw (l, a, ls, rs) (rights_same b (plan_of b).late b.join tables (filter (meets (plan_of b).left) (row_views_at tables b.bound_sources 0)))
+    rw (l, a, ls, rs) (ap (first_rows b.limit) (rights_same b (plan_of b).late b.join tables (filter (meets (plan_of b).left) (row_views_at tables b.bound_sources 0))))
 
 -- the answer of a query that passes all tests
 pub answered : (q : Query) (tables : List Table) (b : BoundQuery) → binding_fault (map table_header_of tables) q ≡ None → b ≡ bound_query (bound_sources (map table_header_of tables) q) q

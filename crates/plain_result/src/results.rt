@@ -17,8 +17,8 @@ ghost use Rattle.plain_result.specs.RowViews.{view_of_row, meets, right_row_view
 use crate::table_rows::TableRow;
 use crate::tables::{TableSlice, row_views_of};
 use query_plan::{
-    BindFault, Conjunct, LeftRow, Query, all_hold, bind, conjuncts_of, header, push_alone,
-    push_pairs,
+    BindFault, Conjunct, LeftRow, Query, all_hold, bind, conjuncts_of, header, keep_first_rows,
+    push_alone, push_pairs,
 };
 use std::alloc::{AllocError, Global};
 use table_list::Tables;
@@ -44,7 +44,7 @@ fn push_answers(
 }
 
 /// What the query shows of those left rows that meet the left condition, in a join each beside the
-/// right rows.
+/// right rows, whatever the limit.
 fn rows_of(
     alloc: Global,
     query: &Query<'_>,
@@ -52,8 +52,8 @@ fn rows_of(
     late: &[Conjunct<'_, '_>],
     lefts: &[TableRow<'_>],
     rights: &[TableRow<'_>],
-) -> Result<List<List<Value>>, AllocError>
-    ensures { IfOk result (λ rows. rows
+) -> Result<Vec<List<Value>>, AllocError>
+    ensures { IfOk result (λ rows. rows.items
         ≡ flat_map (left_answers (query_seen query.now) (map conjunct_seen late.now)
         (option_map join_seen query.now.join) (map view_of_row rights.now))
         (filter (meets (map conjunct_seen left.now)) (map view_of_row lefts.now))) }
@@ -64,7 +64,7 @@ fn rows_of(
             push_answers(alloc, query, late, row, rights, &mut rows)?;
         }
     }
-    Ok(List::from_vec(rows))
+    Ok(rows)
 }
 
 /// The rows of the right source, if there is a join.
@@ -95,7 +95,9 @@ fn answer_rows<'t>(
     let late = conjuncts_of(alloc, &query.condition, false)?;
     let lefts = row_views_of(alloc, tables, query.bound_sources.left)?;
     let rights = right_row_views(alloc, tables, query)?;
-    rows_of(alloc, query, &left, &late, &lefts, &rights)
+    let mut rows = rows_of(alloc, query, &left, &late, &lefts, &rights)?;
+    keep_first_rows(query.limit, &mut rows);
+    Ok(List::from_vec(rows))
 }
 
 /// The answer of a query that passes all tests.

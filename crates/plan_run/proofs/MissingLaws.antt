@@ -11,7 +11,7 @@ use Rattle.vo_spec.specs.Pruning.{is_missing}
 use Rattle.vo_spec.specs.Needs.{same_table, tables_used, tree_at, right_tree}
 use Rattle.vo_laws.proofs.ListLaws.{IsIn}
 use Rattle.vo_laws.proofs.ScanLaws.{Shows, complete}
-use Rattle.query_plan.specs.Plans.{QueryPlan}
+use Rattle.query_plan.specs.Plans.{QueryPlan, plan_need}
 use Rattle.plan_run.specs.Running.{is_unseen, lefts_seen, needs_by as needs_at, needs_of, stops, is_any_missing}
 
 shown_seen : {A : Type 0} (o : Option A) → Shows o → is_none o ≡ false
@@ -62,14 +62,14 @@ either false b e = inr e
 pub stopped_missing : (p : QueryPlan) (ts : List RowTree) → length ts ≡ length (tables_used p.query.bound_sources)
     → ((on : ColumnPlace × ColumnPlace) → p.query.join ≡ Some on → (length p.query.bound_sources == 1) ≡ false) → stops p ts ≡ true → is_any_missing p ts ≡ true
 stopped_missing p ts e paired u =
-    elim (either (is_unseen (tree_at ts 0) p.uncut_need) (list_any (is_unseen (right_tree p.query.bound_sources ts)) (needs_of p (lefts_seen p (tree_at ts 0)))) u) [
-      | inl l ↦ left_by (bound_source_at p.query.bound_sources 0).table (bound_source_at p.query.bound_sources 1).table p.uncut_need (needs_of p (lefts_seen p (tree_at ts 0))) (length p.query.bound_sources == 1 || same_table p.query.bound_sources) ts e l
+    elim (either (is_unseen (tree_at ts 0) (plan_need p (tree_at ts 0))) (list_any (is_unseen (right_tree p.query.bound_sources ts)) (needs_of p (lefts_seen p (tree_at ts 0)))) u) [
+      | inl l ↦ left_by (bound_source_at p.query.bound_sources 0).table (bound_source_at p.query.bound_sources 1).table (plan_need p (tree_at ts 0)) (needs_of p (lefts_seen p (tree_at ts 0))) (length p.query.bound_sources == 1 || same_table p.query.bound_sources) ts e l
       | inr r ↦ step p.query.join refl r
     ]
   where
     joined : (on : ColumnPlace × ColumnPlace) → p.query.join ≡ Some on → list_any (is_unseen (right_tree p.query.bound_sources ts)) (needs_of p (lefts_seen p (tree_at ts 0))) ≡ true → is_any_missing p ts ≡ true
     joined on is r =
-        right_by (bound_source_at p.query.bound_sources 0).table (bound_source_at p.query.bound_sources 1).table p.uncut_need (needs_of p (lefts_seen p (tree_at ts 0))) (length p.query.bound_sources == 1 || same_table p.query.bound_sources) ts e
+        right_by (bound_source_at p.query.bound_sources 0).table (bound_source_at p.query.bound_sources 1).table (plan_need p (tree_at ts 0)) (needs_of p (lefts_seen p (tree_at ts 0))) (length p.query.bound_sources == 1 || same_table p.query.bound_sources) ts e
         (subst (λ b. list_any (is_unseen (cond (b || same_table p.query.bound_sources) (tree_at ts 0) (tree_at ts 1))) (needs_of p (lefts_seen p (tree_at ts 0))) ≡ true) (sym (paired on is)) r)
 
     step : (o : Option (ColumnPlace × ColumnPlace)) → p.query.join ≡ o → list_any (is_unseen (right_tree p.query.bound_sources ts)) (flat_map (λ on. flat_map (needs_at p on) (lefts_seen p (tree_at ts 0))) (option_to_list o)) ≡ true → is_any_missing p ts ≡ true

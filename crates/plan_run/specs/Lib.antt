@@ -1,2 +1,3 @@
+pub mod EntryViews
 pub mod RowViews
 pub mod Running

@@ -6,13 +6,13 @@ use Rattle.vo_spec.specs.declared.trees.ScanFault.{ScanFault}
 use Rattle.vo_spec.specs.declared.trees.ScanFault.TheVariants.{Missing, Memory}
 use Rattle.vo_spec.specs.declared.values.Value.{Value}
 use Rattle.vo_spec.specs.declared.needs.Need.{Need}
-use Rattle.vo_spec.specs.Results.{BoundSource, ColumnPlace, RowView, schema_at}
+use Rattle.vo_spec.specs.Results.{BoundSource, ColumnPlace, RowView, schema_at, first_rows}
 use Rattle.vo_spec.specs.Trees.{RowTree}
 use Rattle.vo_spec.specs.Scans.{seen}
 use Rattle.vo_spec.specs.Pruning.{is_missing}
 use Rattle.vo_spec.specs.Needs.{seen_row_views, tables_used, tree_at, right_tree}
 use Rattle.query_plan.specs.Plans.{QueryPlan, plan_need, has_join_value, right_need_of, meets_left}
-use Rattle.query_plan.specs.Answers.{pair_answers, plan_rows}
+use Rattle.query_plan.specs.Answers.{pair_answers, unlimited_rows, plan_rows}
 use Rattle.plan_run.specs.declared.ran.Ran.{Ran}
 use Rattle.plan_run.specs.declared.left_views.Shown.{Shown}
 
@@ -78,11 +78,11 @@ Runs (Ok ran) p trees = (stops p trees ≡ false) × (ran.rows ≡ run_rows p tr
 Runs (Err Missing) p trees = stops p trees ≡ true
 Runs (Err Memory) p trees = Unit {0}
 
--- the same of left rows that are given
+-- the same of left rows that are given, whatever the limit
 abbrev pub Shows : Result Shown ScanFault → QueryPlan → List RowView → RowTree → Type 0
 Shows (Ok shown) p lefts tree =
     (list_any (is_unseen tree) (needs_of p lefts) ≡ false)
-    × (shown.rows.items ≡ plan_rows p lefts (rights_seen p tree))
+    × (shown.rows.items ≡ unlimited_rows p lefts (rights_seen p tree))
     × (shown.needs.items ≡ needs_of p lefts)
 Shows (Err Missing) p lefts tree = list_any (is_unseen tree) (needs_of p lefts) ≡ true
 Shows (Err Memory) p lefts tree = Unit {0}
@@ -109,9 +109,9 @@ AddsPairs (Ok done) old new p on left tree =
 AddsPairs (Err Missing) old new p on left tree = stops_at p on tree left ≡ true
 AddsPairs (Err Memory) old new p on left tree = Unit {0}
 
--- what was shown, with this need of the left tree
+-- the first rows of what was shown, with this need of the left tree
 abbrev pub RanOf : Result Ran ScanFault → QueryPlan → Need → Shown → Type 0
-RanOf (Ok ran) p left shown = (ran.rows ≡ shown.rows.items)
+RanOf (Ok ran) p left shown = (ran.rows ≡ first_rows p.query.limit shown.rows.items)
     × (ran.needs ≡ group_needs p.query.bound_sources left shown.needs.items)
 RanOf (Err Missing) p left shown = ⊥
 RanOf (Err Memory) p left shown = Unit {0}

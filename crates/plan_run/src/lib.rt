@@ -1,7 +1,9 @@
 //! What the trees of a reply show for a query, and what the query needs of each of them.
 #![tactic(auto)]
 
+mod entry_views;
 mod laws;
+mod left_test;
 mod left_tree;
 mod left_views;
 mod needing;

@@ -66,6 +66,7 @@ pub fn right_needs<N: RowNode>(
     let Some(join) = plan.query.join else {
         return Ok(Vec::new(alloc));
     };
-    let seen = scan(alloc, left, left_need(plan, left))?;
+    let need = left_need(alloc, plan, left)?;
+    let seen = scan(alloc, left, &need)?;
     Ok(needs_of_seen(alloc, plan, join, seen.as_slice())?)
 }

@@ -5,7 +5,7 @@ ghost use Rattle.query_plan.specs.PlanViews.{plan_seen};
 ghost use Rattle.plan_run.specs.Running.{RanOf, group_needs};
 
 use crate::left_views::Shown;
-use query_plan::{BoundSources, Plan, copy_need, has_one_tree};
+use query_plan::{BoundSources, Plan, has_one_tree, keep_first_rows};
 use std::alloc::{AllocError, Global};
 use vo_spec::{List, Need, ScanFault, Value};
 
@@ -41,17 +41,18 @@ fn group_needs(
     Ok(List::from_vec(groups))
 }
 
-/// What was shown, with the needs of each tree, of which this is the left one's own.
+/// The first rows of what was shown, with the needs of each tree, of which this is the left one's
+/// own.
 pub(crate) fn ran_of(
     alloc: Global,
     plan: &Plan<'_, '_>,
-    left: &Need,
+    left: Need,
     shown: Shown,
 ) -> Result<Ran, ScanFault>
-    ensures { RanOf result (plan_seen plan.now) left.now shown }
+    ensures { RanOf result (plan_seen plan.now) left shown }
 {
-    let Shown { rows, needs } = shown;
-    let left = copy_need(alloc, left)?;
+    let Shown { mut rows, needs } = shown;
+    keep_first_rows(plan.query.limit, &mut rows);
     Ok(Ran {
         rows: List::from_vec(rows),
         needs: group_needs(alloc, &plan.query.bound_sources, left, needs)?,

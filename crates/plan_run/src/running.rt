@@ -52,8 +52,8 @@ pub fn run_plan(
     ensures { Runs result (plan_seen plan.now) (map part_of trees.now) }
 {
     let tree = &trees[0];
-    let left = left_need(plan, tree);
-    let seen = match scan(alloc, tree, left) {
+    let left = left_need(alloc, plan, tree)?;
+    let seen = match scan(alloc, tree, &left) {
         Ok(seen) => seen,
         Err(fault) => return Err(fault),
     };
@@ -63,14 +63,15 @@ pub fn run_plan(
     }
 }
 
-/// The rows that a plan without a join shows, by those that were seen for its uncut need, whoever
-/// saw them.
+/// The rows that a plan without a join and without a limit shows, by those that were seen for its
+/// uncut need, whoever saw them.
 pub fn rows_of_seen(
     alloc: Global,
     plan: &Plan<'_, '_>,
     rows: &[SeenRow],
 ) -> Result<List<List<Value>>, AllocError>
-    requires { plan.now.query.now.join ≡ None }
+    requires alone { plan.now.query.now.join ≡ None }
+    requires whole { plan.now.query.now.limit ≡ None }
     ensures { (tree : RowTree) → seen plan.now.uncut_need tree ≡ Some rows.now
         → IfOk result (λ shown. shown ≡ run_rows (plan_seen plan.now) (tree ∷ [])) }
 {

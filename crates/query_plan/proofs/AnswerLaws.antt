@@ -12,15 +12,15 @@ use Rattle.vo_spec.specs.declared.queries.Join.{Join}
 use Rattle.vo_spec.specs.declared.tables.Table.{Table}
 use Rattle.vo_spec.specs.Values.{is_null, value_cmp}
 use Rattle.vo_spec.specs.Conditions.{Condition, condition_refs, is_true, compares, comparison_truth, is_met, Query}
-use Rattle.vo_spec.specs.Results.{BoundSource, ColumnPlace, place_of, shown_places, RowView, no_row_view, place_value, ref_value, is_joined, answer_rows, row_views_at}
+use Rattle.vo_spec.specs.Results.{BoundSource, ColumnPlace, place_of, shown_places, RowView, no_row_view, place_value, ref_value, is_joined, first_rows, unlimited_rows as unlimited_by_names, answer_rows, row_views_at}
 use Rattle.vo_spec.specs.Needs.{left_truth, meets_left as meets_by_names}
 use Rattle.vo_laws.proofs.ListLaws.{each_from, flat_map_kept}
 use Rattle.vo_laws.proofs.ConditionLaws.{SameLeft, same_left}
-use Rattle.vo_laws.proofs.AnswerLaws.{answer_of, answers_of, answer_rows_are, failing_gives_none}
+use Rattle.vo_laws.proofs.AnswerLaws.{answer_of, answers_of, unlimited_rows_are, failing_gives_none}
 use Rattle.query_plan.specs.BoundConditions.{BoundCondition, all_hold, conjuncts_where}
 use Rattle.query_plan.specs.BoundQueries.{BoundQuery, bound_condition, bound_join, bound_query}
 use Rattle.query_plan.specs.Plans.{QueryPlan, plan_of, has_join_value, meets_left}
-use Rattle.query_plan.specs.Answers.{are_joined, answer_at, pair_answers, left_answers, plan_rows}
+use Rattle.query_plan.specs.Answers.{are_joined, answer_at, pair_answers, left_answers, unlimited_rows, plan_rows}
 use Rattle.query_plan.proofs.MeaningLaws.{same_filter, truth_same, conjuncts_hold, left_same, meets_same}
 
 pub flat_same : {A B : Type 0} (f g : A → List B) → ((x : A) → f x ≡ g x) → (xs : List A) → flat_map f xs ≡ flat_map g xs
@@ -117,18 +117,23 @@ module _ (ss : List BoundSource) (q : Query) where
 
   -- the rows of left rows that meet the left condition
   pub rows_kept : (row_views : List RowView) (rights others : RowView → List RowView) → ((left : RowView) → rights left ≡ others left)
-      → plan_rows p (filter (meets_by_names ss q) row_views) rights ≡ flat_map (answers_of ss q q.join others) (filter (meets_by_names ss q) row_views)
+      → unlimited_rows p (filter (meets_by_names ss q) row_views) rights ≡ flat_map (answers_of ss q q.join others) (filter (meets_by_names ss q) row_views)
   rows_kept row_views rights others same =
       kept_same (meets_by_names ss q) (λ left. left_answers p.query p.late p.query.join (rights left) left) (answers_of ss q q.join others)
       (λ left met. answers_by q.join rights others left (same left) met) row_views
 
-  -- A plan keeps its query's result: run over the lines of plain tables, it gives the query's rows.
-  pub plain_same : (tables : List Table)
-      → plan_rows p (filter (meets_left p) (row_views_at tables ss 0)) (λ left. row_views_at tables ss 1) ≡ answer_rows ss q (row_views_at tables ss 0) (λ left. row_views_at tables ss 1)
-  plain_same tables =
-      ap (λ ls. plan_rows p ls (λ left. row_views_at tables ss 1)) (same_filter (meets_left p) (meets_by_names ss q) (meets_same ss q) (row_views_at tables ss 0))
+  unlimited_same : (tables : List Table)
+      → unlimited_rows p (filter (meets_left p) (row_views_at tables ss 0)) (λ left. row_views_at tables ss 1)
+      ≡ unlimited_by_names ss q (row_views_at tables ss 0) (λ left. row_views_at tables ss 1)
+  unlimited_same tables =
+      ap (λ ls. unlimited_rows p ls (λ left. row_views_at tables ss 1)) (same_filter (meets_left p) (meets_by_names ss q) (meets_same ss q) (row_views_at tables ss 0))
       ∙ rows_kept (row_views_at tables ss 0) (λ left. row_views_at tables ss 1) (λ left. row_views_at tables ss 1) (λ left. refl)
       ∙ flat_map_kept (answers_of ss q q.join (λ left. row_views_at tables ss 1)) (meets_by_names ss q) (row_views_at tables ss 0)
       (each_from (λ x. meets_by_names ss q x ≡ false → answers_of ss q q.join (λ left. row_views_at tables ss 1) x ≡ []) (row_views_at tables ss 0)
       (λ x i e. failing_gives_none ss q x e q.join (λ left. row_views_at tables ss 1)))
-      ∙ sym (answer_rows_are ss q (row_views_at tables ss 0) (λ left. row_views_at tables ss 1))
+      ∙ sym (unlimited_rows_are ss q (row_views_at tables ss 0) (λ left. row_views_at tables ss 1))
+
+  -- A plan keeps its query's result: run over the lines of plain tables, it gives the query's rows.
+  pub plain_same : (tables : List Table)
+      → plan_rows p (filter (meets_left p) (row_views_at tables ss 0)) (λ left. row_views_at tables ss 1) ≡ answer_rows ss q (row_views_at tables ss 0) (λ left. row_views_at tables ss 1)
+  plain_same tables = ap (first_rows q.limit) (unlimited_same tables)

@@ -6,6 +6,7 @@ use Rattle.std.specs.List.{list_any, list_all}
 use Rattle.std.proofs.lemmas.List.{map-append}
 use Rattle.vo_spec.specs.declared.values.Value.{Value}
 use Rattle.vo_spec.specs.declared.needs.Need.{Need}
+use Rattle.vo_spec.specs.declared.needs.SeenRow.{SeenRow}
 use Rattle.vo_spec.specs.declared.keys.Interval.{Interval}
 use Rattle.vo_spec.specs.declared.queries.Ref.{Ref}
 use Rattle.vo_spec.specs.declared.queries.Cmp.TheVariants as cmp
@@ -19,11 +20,12 @@ use Rattle.vo_spec.specs.Tables.{cell_number}
 use Rattle.vo_spec.specs.Conditions.{Truth, is_true, both, every, some, negated, test, none, more, with_tests_in, truth_of_all, comparison, null_test, comparison_truth, NameTest, Condition, Conditions, operand_refs, test_refs, condition_refs, operand_value, test_truth, truth, Query, is_met}
 use Rattle.vo_spec.specs.Results.{BoundSource, ColumnPlace, schema_at, place_of, join_places, item_refs, join_refs, numbers_from, shown_places, RowView, place_value, ref_value}
 use Rattle.vo_spec.specs.Trees.{RowTree}
-use Rattle.vo_spec.specs.Needs.{all_keys, keys_that, join_value, has_join_value as has_value_by_names, test_interval, interval_of, is_left, left_truth, left_truths, is_place, shows_all, is_named_column, named_cells, uncut_need, left_need, right_need, meets_left as meets_by_names}
+use Rattle.vo_spec.specs.Cuts.{limited_need}
+use Rattle.vo_spec.specs.Needs.{all_keys, keys_that, join_value, has_join_value as has_value_by_names, test_interval, interval_of, is_left, left_truth, left_truths, is_place, shows_all, is_named_column, named_cells, uncut_need, meets_row, left_limit, left_need, right_need, seen_row_view, meets_left as meets_by_names}
 use Rattle.query_plan.specs.BoundConditions.{BoundCondition, BoundConditions, term_value, bound_test_truth, bound_truth, holds, all_hold, term_places, test_places, condition_places, bound_test_interval, bound_interval, is_left_place, is_on_left, one_where, conjuncts_where, all_where}
 use Rattle.query_plan.specs.BoundQueries.{bound_term, bound_test, bound_condition, bound_join, bound_query, join_columns}
 use Rattle.query_plan.specs.NamedCells.{is_at, names, is_named_cell, bound_cells}
-use Rattle.query_plan.specs.Plans.{plan_of, plan_need, left_column, has_join_value, right_need_of, meets_left}
+use Rattle.query_plan.specs.Plans.{plan_of, plan_need, left_column, has_join_value, right_need_of, meets_left, plan_meets}
 use Rattle.query_plan.proofs.FormulaLaws.{truth_with, tests_with, interval_with}
 
 -- Tests of mapped items, and tests that agree.
@@ -243,9 +245,6 @@ module _ (ss : List BoundSource) (q : Query) where
       ap (λ (i : Interval). let n : Need = record { interval = i; columns = bound_cells (bound_query ss q) 0 } in n) (left_interval ss q.condition)
       ∙ ap (λ (cs : List ℕ). let n : Need = record { interval = option_map_or (interval_of ss) q.condition all_keys; columns = cs } in n) (cells_same 0)
 
-  pub left_need_same : (left : RowTree) → plan_need (plan_of (bound_query ss q)) left ≡ left_need ss q left
-  left_need_same left = uncut_need_same
-
   pub right_need_same : (j : Join) (left : RowView) → right_need_of (plan_of (bound_query ss q)) (bound_join ss j) left ≡ right_need ss q j left
   right_need_same j left =
       ap (λ (p : ColumnPlace). let n : Need = record { interval = keys_that cmp.Eq (key_of (place_value (left ∷ []) p)); columns = bound_cells (bound_query ss q) 1 } in n) (column_same ss j)
@@ -258,3 +257,23 @@ module _ (ss : List BoundSource) (q : Query) where
 
   pub meets_same : (left : RowView) → meets_left (plan_of (bound_query ss q)) left ≡ meets_by_names ss q left
   meets_same left = meets_by q.condition left
+
+  -- The cut is at the same row of a left tree.
+
+  pub counts_same : (row : SeenRow) → plan_meets (plan_of (bound_query ss q)) row ≡ meets_row ss q row
+  counts_same row =
+      meets_same (seen_row_view (schema_at ss 0) (plan_of (bound_query ss q)).uncut_need.columns row)
+      ∙ ap (λ (need : Need). meets_by_names ss q (seen_row_view (schema_at ss 0) need.columns row)) uncut_need_same
+
+  conditions_same : plan_meets (plan_of (bound_query ss q)) ≡ meets_row ss q
+  conditions_same = λ i row. counts_same row i
+
+  limit_same : (j : Option Join) → left_limit (option_map (bound_join ss) j) q.limit ≡ left_limit j q.limit
+  limit_same None = refl
+  limit_same (Some j) = refl
+
+  pub left_need_same : (left : RowTree) → plan_need (plan_of (bound_query ss q)) left ≡ left_need ss q left
+  left_need_same left =
+      ap (λ limit. limited_need (plan_of (bound_query ss q)).uncut_need (plan_meets (plan_of (bound_query ss q))) limit left) (limit_same q.join)
+      ∙ ap (λ need. limited_need need (plan_meets (plan_of (bound_query ss q))) (left_limit q.join q.limit) left) uncut_need_same
+      ∙ ap (λ meets. limited_need (uncut_need ss q) meets (left_limit q.join q.limit) left) conditions_same

@@ -4,7 +4,7 @@ use Rattle.vo_spec.specs.declared.values.Value.{Value}
 use Rattle.vo_spec.specs.declared.tables.Table.{Table}
 use Rattle.vo_spec.specs.declared.queries.Cmp.TheVariants as cmp
 use Rattle.vo_spec.specs.Conditions.{is_true, comparison_truth}
-use Rattle.vo_spec.specs.Results.{ColumnPlace, RowView, place_value, row_views_at}
+use Rattle.vo_spec.specs.Results.{ColumnPlace, RowView, place_value, row_views_at, first_rows}
 use Rattle.query_plan.specs.BoundConditions.{BoundCondition, all_hold}
 use Rattle.query_plan.specs.BoundQueries.{BoundQuery}
 use Rattle.query_plan.specs.Plans.{QueryPlan, meets_left}
@@ -35,11 +35,15 @@ abbrev pub left_answers : BoundQuery → List BoundCondition → Option (ColumnP
 left_answers b late None rights left = answer_at b late (place_value (left ∷ []))
 left_answers b late (Some on) rights left = pair_answers b late rights left
 
--- of the left rows of a plan, each with its right rows: the left condition is met, so the late one
--- is asked
-abbrev pub plan_rows : QueryPlan → List RowView → (RowView → List RowView) → List (List Value)
-plan_rows p lefts rights = flat_map
+-- of the left rows of a plan, each with its right rows, whatever the limit: the left condition is
+-- met, so the late one is asked
+abbrev pub unlimited_rows : QueryPlan → List RowView → (RowView → List RowView) → List (List Value)
+unlimited_rows p lefts rights = flat_map
     (λ left. left_answers p.query p.late p.query.join (rights left) left) lefts
+
+-- the first of them, no more than are wanted
+abbrev pub plan_rows : QueryPlan → List RowView → (RowView → List RowView) → List (List Value)
+plan_rows p lefts rights = first_rows p.query.limit (unlimited_rows p lefts rights)
 
 -- what a plan shows of plain tables
 abbrev pub plain_rows : QueryPlan → List Table → List (List Value)

@@ -1,6 +1,6 @@
 -- Queries whose references are columns by their numbers, and what binding makes of a query by
 -- names.
-use Rattle.std.specs.Prelude.{List, [], ◌∷◌, ◌++◌, Option, option_map}
+use Rattle.std.specs.Prelude.{ℕ, List, [], ◌∷◌, ◌++◌, Option, option_map}
 use Rattle.std.specs.List.{AllByRecursion}
 use Rattle.std.specs.Option.{option_map_or}
 use Rattle.vo_spec.specs.declared.queries.Ref.{Ref}
@@ -13,13 +13,15 @@ use Rattle.vo_spec.specs.Results.{BoundSource, ColumnPlace, place_of, shown_plac
 use Rattle.query_plan.specs.BoundConditions.{BoundTerm, column, literal, BoundTest, BoundCondition, condition_places}
 
 -- The sources with their tables' schemas, the items as the text has them (for the titles), the
--- columns that are shown, the two of ON in the order of the text, and the condition.
+-- columns that are shown, the two of ON in the order of the text, the condition, and how many rows
+-- are wanted at most.
 pub record BoundQuery : Type 0 where
   pub bound_sources : List BoundSource
   pub items : Items
   pub output : List ColumnPlace
   pub join : Option (ColumnPlace × ColumnPlace)
   pub condition : Option BoundCondition
+  pub limit : Option ℕ
 
 abbrev pub bound_term : List BoundSource → Operand → BoundTerm
 bound_term ss (Column r) = column (place_of ss r)
@@ -42,6 +44,7 @@ bound_query ss q = record {
   output = shown_places ss q.items;
   join = option_map (bound_join ss) q.join;
   condition = option_map (bound_condition ss) q.condition;
+  limit = q.limit;
 }
 
 -- the numbers that comparisons compare with are of 64 bits

@@ -51,4 +51,5 @@ query_seen h = record {
   output = map place_seen h.output.items;
   join = option_map join_seen h.join;
   condition = option_map condition_seen h.condition;
+  limit = h.limit;
 }

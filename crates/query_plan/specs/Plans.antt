@@ -6,7 +6,8 @@ use Rattle.vo_spec.specs.declared.queries.Cmp.TheVariants as cmp
 use Rattle.vo_spec.specs.Values.{is_null, key_of}
 use Rattle.vo_spec.specs.Results.{ColumnPlace, schema_at, RowView, place_value}
 use Rattle.vo_spec.specs.Trees.{RowTree}
-use Rattle.vo_spec.specs.Needs.{all_keys, keys_that}
+use Rattle.vo_spec.specs.Cuts.{RowCondition, limited_need}
+use Rattle.vo_spec.specs.Needs.{all_keys, keys_that, seen_row_view, left_limit}
 use Rattle.query_plan.specs.BoundConditions.{BoundCondition, all_hold, bound_interval, conjuncts_where}
 use Rattle.query_plan.specs.BoundQueries.{BoundQuery}
 use Rattle.query_plan.specs.NamedCells.{bound_cells}
@@ -35,10 +36,6 @@ plan_of b = record {
   late = option_map_or (conjuncts_where false) b.condition [];
 }
 
--- what the plan needs of this left tree: all of the uncut need
-abbrev pub plan_need : QueryPlan → RowTree → Need
-plan_need p left = p.uncut_need
-
 -- ON's column of the left source
 abbrev pub left_column : ColumnPlace × ColumnPlace → ColumnPlace
 left_column on = if on.0.bound_source == 1 then on.1 else on.0
@@ -57,3 +54,14 @@ right_need_of p on left = record {
 -- whether a left row meets the left condition
 abbrev pub meets_left : QueryPlan → RowView → Bool
 meets_left p left = all_hold (place_value (left ∷ [])) p.left
+
+-- whether a row that a scan for the uncut need gives does
+abbrev pub plan_meets : QueryPlan → RowCondition
+plan_meets p row = meets_left p (seen_row_view (schema_at p.query.bound_sources 0)
+    p.uncut_need.columns row)
+
+-- what the plan needs of this left tree: all of the uncut need, or that up to the last row that it
+-- wants
+abbrev pub plan_need : QueryPlan → RowTree → Need
+plan_need p left = limited_need p.uncut_need (plan_meets p)
+    (left_limit p.query.join p.query.limit) left

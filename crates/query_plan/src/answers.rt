@@ -1,6 +1,6 @@
 //! The rows that a bound query shows of rows of its sources, whoever saw these.
 ghost use Rattle.std.specs.Prelude.{◌≡◌, ◌++◌, [], ◌∷◌, map, option_map, IfOk, OnOk, OnErr};
-ghost use Rattle.vo_spec.specs.Results.{place_value};
+ghost use Rattle.vo_spec.specs.Results.{place_value, first_rows};
 ghost use Rattle.query_binding.specs.HeldSources.{place_seen};
 ghost use Rattle.query_plan.specs.BoundViews.{conjunct_seen, join_seen, query_seen};
 ghost use Rattle.query_plan.specs.Answers.{BeginsWith, are_joined, answer_at, pair_answers};
@@ -114,4 +114,13 @@ pub fn push_pairs<L: RowView, R: RowView>(
         push_pair(alloc, query, late, &*left, right, out)?;
     }
     Ok(())
+}
+
+/// Leaves the first rows of an answer, no more than are wanted.
+pub fn keep_first_rows(limit: Option<u32>, rows: &mut Vec<List<Value>>)
+    ensures { rows.new.items ≡ first_rows limit rows.old.items }
+{
+    if let Some(wanted) = limit {
+        rows.truncate(wanted as usize);
+    }
 }

@@ -132,6 +132,7 @@ fn bind_query<'q, S: Schemas>(
         output,
         join,
         condition,
+        limit: text.limit,
     })
 }
 

@@ -23,6 +23,8 @@ pub struct Query<'q> {
     pub output: Vec<ColumnPlace>,
     pub join: Option<BoundJoin>,
     pub condition: Option<BoundCond<'q>>,
+    /// How many rows are wanted at most, the first ones; all of them where it is absent.
+    pub limit: Option<u32>,
     // There is a right source where there is a join.
     ghost joined: { is_some join ≡ is_some bound_sources.right },
 }

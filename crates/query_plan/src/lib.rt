@@ -23,7 +23,7 @@ mod truths;
 mod used_tables;
 mod value_order;
 
-pub use answers::{push_alone, push_pair, push_pairs};
+pub use answers::{keep_first_rows, push_alone, push_pair, push_pairs};
 pub use binding::bind;
 pub use bound_cond::{BoundCond, BoundOperand, BoundTest, Conjunct};
 pub use bound_query::{BoundJoin, Query};

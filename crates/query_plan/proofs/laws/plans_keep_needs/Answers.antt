@@ -1,4 +1,4 @@
-use Rattle.query_plan.proofs.MeaningLaws.{uncut_need_same, left_need_same, right_need_same, value_same, meets_same}
+use Rattle.query_plan.proofs.MeaningLaws.{uncut_need_same, left_need_same, right_need_same, value_same, meets_same, counts_same}
 use Rattle.query_plan.proofs.laws.plans_keep_needs.Goals as goal
 
 pub returns-clause-uncut : goal.returns-clause-uncut
@@ -15,3 +15,6 @@ returns-clause-valued c = λ ss j row_view. value_same ss j row_view
 
 pub returns-clause-kept : goal.returns-clause-kept
 returns-clause-kept c = λ ss q row_view. meets_same ss q row_view
+
+pub returns-clause-meets : goal.returns-clause-meets
+returns-clause-meets c = λ ss q row. counts_same ss q row
