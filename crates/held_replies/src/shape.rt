@@ -7,7 +7,7 @@ ghost use Rattle.mb_tree.specs.View.{part_of, parts_of};
 
 use mb_tree::PartTree;
 use row_bytes::is_key_of;
-use table_list::{allows, key_kind, takes};
+use table_list::{key_kind, may_show};
 use vo_spec::{Cell, Column, PartEntry, RowPart, Schema};
 
 /// Whether the keys of the tree's leaves are keys of the schema, its rows have the schema's cells,
@@ -94,9 +94,7 @@ fn cell_fits(column: &Column, cell: &Cell<'_>) -> bool
     ensures { result ≡ cell_fits column.now cell.now }
 {
     match cell {
-        Cell::Shown(value) => {
-            takes(column.kind, value.as_ref()) && allows(column, value.as_ref())
-        },
+        Cell::Shown(value) => may_show(column, value.as_ref()),
         Cell::Hidden(_) => true,
     }
 }

@@ -1,7 +1,5 @@
 -- How many bytes a check holds, by those that came.
 use Rattle.std.proofs.Common.{◌≡◌, ℕ, ◌+◌, ◌≤◌, List, [], ◌++◌, length, Option, Some, None, refl, sym, ap, ◌∙◌, ◌⊎◌, inl, inr, append-nil, arith}
-use Rattle.std.specs.Prelude.{is_some}
-use Rattle.std.proofs.lemmas.Bool.{false≢true}
 use Rattle.vo_spec.specs.Conditions.{Query}
 use Rattle.vo_spec.specs.Replies.{max_reply}
 use Rattle.reply_stream.specs.declared.head_stream.HeadStream.{HeadStream}
@@ -34,7 +32,7 @@ some_none : {A : Type 0} (x : A) → Some x ≡ None → ⊥
 some_none x e = cc
 
 pub not_both : (q : Query) → IsStreamed q → IsKept q → ⊥
-not_both q streamed kept = false≢true (sym (ap is_some streamed) ∙ kept)
+not_both q streamed kept = kept streamed
 
 -- nothing is held
 pub holds_none : (q : Query) (bytes : List ℕ) (count : ℕ) → count ≡ 0 → HasHead bytes → HoldsNeeded q bytes count

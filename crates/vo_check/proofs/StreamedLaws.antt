@@ -1,4 +1,5 @@
--- A reply to a query without a join is judged by its head and by what was found in its trees.
+-- A reply to a query without a join or a limit is judged by its head and by what was found in its
+-- trees.
 use Rattle.std.proofs.Common.{◌≡◌, ℕ, ◌≤◌, arith, ◌==◌, Bool, true, false, ◌&&◌, ◌||◌, if◌then◌else◌, List, [], ◌∷◌, length, map, Option, Some, None, is_some, Result, Ok, refl, sym, ap, subst, ◌∙◌, ◌⊎◌, inr}
 use Rattle.std.specs.List.{AllByRecursion}
 use Rattle.std.specs.Prelude.{zip, bytes_eq, find, option_map, option_to_list, flat_map}
@@ -24,7 +25,8 @@ use Rattle.vo_spec.specs.declared.records.CatalogTable.{CatalogTable}
 use Rattle.vo_spec.specs.Checks.{has_shape, root_fault, seen_outcome, table_named}
 use Rattle.vo_spec.specs.Firsts.{first_some}
 use Rattle.vo_spec.specs.Fits.{FitsTree}
-use Rattle.vo_spec.specs.Needs.{uncut_need, tables_used, tree_at}
+use Rattle.vo_spec.specs.Cuts.{limited_need}
+use Rattle.vo_spec.specs.Needs.{left_limit, uncut_need, tables_used, tree_at}
 use Rattle.vo_spec.specs.Pruning.{is_missing, has_surplus}
 use Rattle.vo_spec.specs.Replies.{Reply, FitsReply}
 use Rattle.vo_spec.specs.Results.{BoundSource, ColumnPlace, RowView, binding_fault, bound_sources, header, no_schema, schema_at}
@@ -37,7 +39,7 @@ use Rattle.query_plan.specs.declared.bound_query.Query.{Query as HeldQuery}
 use Rattle.query_plan.specs.BoundQueries.{BoundQuery, bound_query}
 use Rattle.query_plan.proofs.MeaningLaws.{uncut_need_same}
 use Rattle.query_plan.specs.BoundViews.{join_seen, query_seen}
-use Rattle.query_plan.specs.Plans.{QueryPlan, bound_uncut_need, plan_of}
+use Rattle.query_plan.specs.Plans.{QueryPlan, bound_uncut_need, plan_meets, plan_need, plan_of}
 use Rattle.plan_run.specs.Running.{group_needs, lefts_seen, needs_by, needs_of, run_needs, run_rows}
 use Rattle.tree_stream.specs.declared.findings.Summary.{Summary}
 use Rattle.tree_stream.specs.declared.findings.Findings.{Findings}
@@ -116,17 +118,25 @@ needs_tested need tree f missing surplus =
     ∙ ap (λ (b : Bool). first_some ((if f.is_missing then Some Missing else None) ∷ (if b then Some Surplus else None) ∷ [])) (or_false (has_surplus (need ∷ []) tree) ∙ surplus)
     ∙ found_first f.is_missing f.has_surplus
 
--- A bound query without a join.
+-- A bound query without a join, and without a limit.
 
 no_right_needs : (p : QueryPlan) (lefts : List RowView) → p.query.join ≡ None → needs_of p lefts ≡ []
 no_right_needs p lefts none = ap (λ (j : Option (ColumnPlace × ColumnPlace)). flat_map (λ on. flat_map (needs_by p on) lefts) (option_to_list j)) none
 
-needs_alone : (p : QueryPlan) (s : BoundSource) (trees : List RowTree) → p.query.bound_sources ≡ s ∷ [] → p.query.join ≡ None → run_needs p trees ≡ (p.uncut_need ∷ []) ∷ []
-needs_alone p s trees one none =
-    ap (λ (ss : List BoundSource). group_needs ss p.uncut_need (needs_of p (lefts_seen p (tree_at trees 0)))) one
-    ∙ ap (λ (ns : List Need). (p.uncut_need ∷ ns) ∷ []) (no_right_needs p (lefts_seen p (tree_at trees 0)) none)
+-- what it needs of its tree no row changes
+uncut : (p : QueryPlan) (tree : RowTree) → p.query.join ≡ None → p.query.limit ≡ None → plan_need p tree ≡ p.uncut_need
+uncut p tree none unlimited =
+    ap (λ (limit : Option ℕ). limited_need p.uncut_need (plan_meets p) limit tree) (ap (λ (j : Option (ColumnPlace × ColumnPlace)). left_limit j p.query.limit) none ∙ unlimited)
 
-module _ (h : HeldQuery) (none : h.join ≡ None) where
+needs_alone : (p : QueryPlan) (s : BoundSource) (trees : List RowTree) → p.query.bound_sources ≡ s ∷ [] → p.query.join ≡ None → p.query.limit ≡ None
+    → run_needs p trees ≡ (p.uncut_need ∷ []) ∷ []
+needs_alone p s trees one none unlimited =
+    let left : RowTree = tree_at trees 0 in
+    ap (λ (ss : List BoundSource). group_needs ss (plan_need p left) (needs_of p (lefts_seen p left))) one
+    ∙ ap (λ (ns : List Need). (plan_need p left ∷ ns) ∷ []) (no_right_needs p (lefts_seen p left) none)
+    ∙ ap (λ (n : Need). (n ∷ []) ∷ []) (uncut p left none unlimited)
+
+module _ (h : HeldQuery) (none : h.join ≡ None) (unlimited : h.limit ≡ None) where
   abbrev b : BoundQuery
   b = query_seen h
 
@@ -176,7 +186,7 @@ module _ (h : HeldQuery) (none : h.join ≡ None) where
 
       by_needs : needs_fault (needed_for (plan_of b) r) ≡ findings_fault s.findings
       by_needs =
-          ap (λ (ns : List (List Need)). needs_fault (zip ns r.trees)) (needs_alone (plan_of b) source r.trees (one_source h none) unjoined)
+          ap (λ (ns : List (List Need)). needs_fault (zip ns r.trees)) (needs_alone (plan_of b) source r.trees (one_source h none) unjoined unlimited)
           ∙ ap (λ (ts : List RowTree). needs_fault (zip (((plan_of b).uncut_need ∷ []) ∷ []) ts)) one
           ∙ needs_tested (bound_uncut_need b) tree s.findings
           (missing_is target tree sum.0.nodes ∙ of_findings (λ f. f.is_missing))
@@ -234,7 +244,7 @@ one_by target [] s e found fits = absurd cc
 one_by target (tree ∷ t ∷ trees) s e found fits = absurd (omega (arith, e))
 one_by target (tree ∷ []) s e found fits = (tree, refl, (fits.0, cc))
 
-module _ (h : HeldQuery) (none : h.join ≡ None) (c : Catalog) (trees : TreesSummary) where
+module _ (h : HeldQuery) (none : h.join ≡ None) (unlimited : h.limit ≡ None) (c : Catalog) (trees : TreesSummary) where
   pub judged_by_summary : (r : Reply) (s : Summary) (table : Option CatalogTable) → HasSchema (query_seen h) c → HasFound (bound_target (query_seen h)) c trees r
       → None ≡ count_fault_of 1 trees.count → trees.first ≡ Some s → table ≡ table_of (query_seen h) c → (result : Result Outcome CheckFault)
       → ((tree : RowTree) → IsSummedUp (bound_target (query_seen h)) tree s
@@ -248,7 +258,7 @@ module _ (h : HeldQuery) (none : h.join ≡ None) (c : Catalog) (trees : TreesSu
       let one = one_by target r.trees s many (sym first ∙ ap (λ (t : TreesSummary). t.first) found.2) found.0.trees in
       let here : HasSchema b r.catalog = subst (HasSchema b) (sym found.1) schema in
       let tests : bound_fault b r ≡ summary_fault table s =
-      one_tree h none r one.0 s one.1 here one.2 ∙ ap (λ (k : Catalog). summary_fault (table_of b k) s) found.1 ∙ ap (λ (t : Option CatalogTable). summary_fault t s) (sym named) in
+      one_tree h none unlimited r one.0 s one.1 here one.2 ∙ ap (λ (k : Catalog). summary_fault (table_of b k) s) found.1 ∙ ap (λ (t : Option CatalogTable). summary_fault t s) (sym named) in
       subst (λ (o : Option CheckFault). GivesIfPassed result o (shown_for (plan_of b) r)) (sym tests)
       (subst (λ (ts : List RowTree). GivesIfPassed result (summary_fault table s) (Rows titles (run_rows (plan_of b) ts))) (sym one.1) (given one.0 one.2))
 

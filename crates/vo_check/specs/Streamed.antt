@@ -1,5 +1,5 @@
--- What a client says of a reply to a query without a join, by the reply's head and by what was
--- found in its trees.
+-- What a client says of a reply to a query without a join or a limit, by the reply's head and by
+-- what was found in its trees.
 use Rattle.std.specs.Prelude.{◌≡◌, if◌then◌else◌, Option, Some, None, is_some}
 use Rattle.vo_spec.specs.declared.checks.CheckFault.{CheckFault}
 use Rattle.vo_spec.specs.declared.checks.CheckFault.TheVariants.{WrongShape, Missing, Surplus}

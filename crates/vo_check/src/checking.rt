@@ -26,8 +26,8 @@ use std::alloc::{AllocError, Global};
 use std::marker::Model;
 use vo_spec::{Answer, CheckFault, QueryText};
 
-/// A reply to a query, checked as it comes. Of a reply to a query without a join it holds what
-/// comes before the trees, the rows that the query needs, and no more of the trees than a stack of
+/// A reply to a query, checked as it comes. Of a reply to a query without a join or a limit it holds
+/// what comes before the trees, the rows that the query needs, and no more of the trees than a stack of
 /// ten nodes and a token; of others the pieces up to the limit.
 #[derive(Drop)]
 pub struct Checking<'q> {

@@ -84,7 +84,7 @@ impl Client {
     }
 
     /// The same by the part trees of the reply, all of which are held. It is what replies to
-    /// queries with a join are checked by.
+    /// queries with a join or a limit are checked by.
     pub fn check_whole(
         &mut self,
         alloc: Global,

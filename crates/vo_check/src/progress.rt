@@ -9,7 +9,7 @@ pub(crate) enum Progress {
     Head(HeadStream),
     /// The catalog's last byte came.
     Trees(OpenReply),
-    /// The pieces so far, of a reply to a query with a join.
+    /// The pieces so far, of a reply to a query with a join or a limit.
     Kept(Vec<u8>),
     /// There are more bytes than a reply may have.
     TooLong,

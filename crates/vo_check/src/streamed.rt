@@ -1,4 +1,5 @@
-//! What a reply to a query without a join answers, by its head and by what was found in its trees.
+//! What a reply to a query without a join or a limit answers, by its head and by what was found in
+//! its trees.
 ghost use Rattle.std.specs.Prelude.{◌≡◌, ◌≤◌, ◌⊎◌, None, Some, Ok, Err, option_map, length, [], ◌∷◌};
 ghost use Rattle.vo_spec.specs.Batches.{max_columns};
 ghost use Rattle.vo_spec.specs.Checks.{answer_to, check_fault, seen_outcome};
@@ -17,6 +18,7 @@ ghost use Rattle.plan_run.specs.Running.{run_rows};
 ghost use Rattle.reply_stream.specs.ReplyParts.{parts_of};
 ghost use Rattle.held_replies.specs.Judging.{bound_fault, proof_fault, shown_for};
 ghost use Rattle.held_replies.specs.Testing.{GivesIfPassed, PassesTests};
+ghost use Rattle.vo_check.specs.Streaming.{IsStreamed};
 ghost use Rattle.vo_check.specs.Streamed.{HasFound, HasSchema, IsSummedUp, bound_target, findings_fault, plan_for, summary_fault, table_fault, target_for};
 
 use held_replies::{count_fault, head_fault, table_named, test_digest};
@@ -70,7 +72,8 @@ fn test_summary(
 
 /// The answer of a plan by the rows that were seen for its need.
 fn show_rows(alloc: Global, plan: &Plan<'_, '_>, rows: &[SeenRow]) -> Result<Outcome, CheckFault>
-    requires { plan.now.query.now.join ≡ None }
+    requires alone { plan.now.query.now.join ≡ None }
+    requires unlimited { plan.now.query.now.limit ≡ None }
     ensures { (tree : RowTree) → seen plan.now.uncut_need tree ≡ Some rows.now
         → (let p = plan_seen plan.now in GivesIfPassed result None
         (Rows (header_of p.query.bound_sources p.query.items) (run_rows p (tree ∷ [])))) }
@@ -92,6 +95,7 @@ fn judge_summary(
     summary: &Summary,
 ) -> Result<Outcome, CheckFault>
     requires alone { query.now.join ≡ None }
+    requires unlimited { query.now.limit ≡ None }
     requires left { length (schema_at (bound_sources_seen query.now.bound_sources) 0).columns ≤
         max_columns }
     requires right { length (schema_at (bound_sources_seen query.now.bound_sources) 1).columns ≤
@@ -119,6 +123,7 @@ fn judge_bound(
     trees: &TreesSummary,
 ) -> Result<Outcome, CheckFault>
     requires alone { query.now.join ≡ None }
+    requires unlimited { query.now.limit ≡ None }
     requires schema { HasSchema (query_seen query.now) catalog.now }
     requires left { length (schema_at (bound_sources_seen query.now.bound_sources) 0).columns ≤
         max_columns }
@@ -158,7 +163,7 @@ fn judge_trees(
     catalog: &Catalog,
     trees: &TreesSummary,
 ) -> Result<Outcome, CheckFault>
-    requires alone { query.now.join ≡ None }
+    requires streamed { IsStreamed (query_of query.now) }
     requires fits { FitsCatalog catalog.now }
     ensures { (r : Reply) → let q = query_of query.now in
         HasFound (target_for q catalog.now) catalog.now trees.now r
@@ -179,7 +184,7 @@ fn answer_of(
     head: &Head,
     trees: &TreesSummary,
 ) -> Result<Answer, CheckFault>
-    requires { query.now.join ≡ None }
+    requires { IsStreamed (query_of query.now) }
     ensures { (r : Reply) → let q = query_of query.now in
         FitsReply r → parts_of (plan_for q) r ≡ (head.now, trees.now)
         → GivesIfPassed result (check_fault key.now least q r)
@@ -210,7 +215,7 @@ pub(crate) fn judge_streamed(
     head: &Head,
     trees: &TreesSummary,
 ) -> Result<Answer, CheckFault>
-    requires { query.now.join ≡ None }
+    requires { IsStreamed (query_of query.now) }
     ensures { (r : Reply) → let q = query_of query.now in
         FitsReply r → parts_of (plan_for q) r ≡ (head.now, trees.now)
         → (result ≡ Err CheckFault.Memory) ⊎ (result ≡ answer_to key.now least q r) }

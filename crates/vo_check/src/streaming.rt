@@ -10,5 +10,5 @@ pub(crate) fn is_streamed(query: &QueryText) -> bool
     ensures yes { result ≡ true → IsStreamed (query_of query.now) }
     ensures no { result ≡ false → IsKept (query_of query.now) }
 {
-    query.join.is_none()
+    query.join.is_none() && query.limit.is_none()
 }

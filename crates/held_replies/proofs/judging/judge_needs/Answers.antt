@@ -1,11 +1,18 @@
-use Rattle.std.proofs.Common.{◌≡◌, true, map, inr, sym, subst, ◌∙◌}
+use Rattle.std.proofs.Common.{◌≡◌, ◌⊎◌, List, true, Some, map, inr, sym, ap, subst, ◌∙◌}
+use Rattle.std.specs.Prelude.{zip}
 use Rattle.std.proofs.lemmas.List.{length-map}
+use Rattle.vo_spec.specs.declared.checks.CheckFault.TheVariants.{Memory}
+use Rattle.vo_spec.specs.declared.needs.Need.{Need}
+use Rattle.vo_spec.specs.Trees.{RowTree}
+use Rattle.mb_tree.specs.declared.parts.PartTree.{PartTree}
 use Rattle.mb_tree.specs.View.{part_of}
 use Rattle.query_plan.specs.PlanViews.{plan_seen}
 use Rattle.query_plan.proofs.SourceLaws.{paired}
-use Rattle.plan_run.specs.Running.{stops}
+use Rattle.plan_run.specs.Running.{run_needs, stops}
 use Rattle.plan_run.proofs.MissingLaws.{stopped_missing}
 use Rattle.vo_format.specs.View.{reply_of}
+use Rattle.held_replies.specs.Testing.{needs_fault}
+use Rattle.held_replies.specs.Judging.{needed_for}
 use Rattle.held_replies.proofs.ReplyTests.{needs_refused}
 use Rattle.held_replies.proofs.judging.judge_needs.Goals as goal
 
@@ -16,3 +23,13 @@ returns-in-Err-Missing c =
     let stopped : stops (plan_seen c.args.plan.now) (map part_of c.deref.result.now) ≡ true = rw (c.in-Err-Missing.is, c.in-Err-Missing.field-0-is) at c.run_plan.ensures in
     inr (needs_refused p r (stopped_missing p r.trees (length-map _ part_of ∙ sym c.requires) (paired c.args.plan.now.query.now)
     (subst (λ ts. stops (plan_seen c.args.plan.now) (map part_of ts) ≡ true) c.deref.ensures.value stopped)))
+
+pub returns-in-Err : goal.returns-in-Err
+returns-in-Err c =
+    let p = plan_seen c.args.plan.now in
+    let r = reply_of c.args.reply.now in
+    let needed : c.as_slice.result.now ≡ run_needs p r.trees =
+    c.as_slice.ensures ∙ c.in-Ok.ensures.2 ∙ ap (λ (ts : List PartTree). run_needs p (map part_of ts)) c.deref.ensures.value in
+    let same : zip c.as_slice.result.now (map part_of c.deref-2.result.now) ≡ needed_for p r =
+    ap (λ (ns : List (List Need)). zip ns (map part_of c.deref-2.result.now)) needed ∙ ap (λ (ts : List PartTree). zip (run_needs p r.trees) (map part_of ts)) c.deref-2.ensures.value in
+    subst (λ (ns : List (List Need × RowTree)). (c.in-Err.fault ≡ Memory) ⊎ (needs_fault ns ≡ Some c.in-Err.fault)) same c.in-Err.ensures
