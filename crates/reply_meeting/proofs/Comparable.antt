@@ -1,7 +1,7 @@
 -- The trees of two accepted replies of one catalog can be compared; and where the left ones give
 -- one walk, the plan needs the same of all.
 use Rattle.std.proofs.Common.{◌≡◌, ◌==◌, ℕ, suc, ◌<◌, Bool, true, false, if◌then◌else◌, List, [], ◌∷◌, length, map, zip, get_or, Option, Some, None, is_some, refl, sym, ap, ◌∙◌, subst, arith}
-use Rattle.std.specs.Prelude.{filter, unwrap_or}
+use Rattle.std.specs.Prelude.{filter, flat_map, option_to_list, unwrap_or}
 use Rattle.std.specs.List.{list_any, AllZip}
 use Rattle.std.proofs.lemmas.Bool.{or_from}
 use Rattle.vo_spec.specs.declared.checks.CheckFault.{CheckFault}
@@ -12,22 +12,24 @@ use Rattle.vo_spec.specs.declared.records.Catalog.{Catalog}
 use Rattle.vo_spec.specs.declared.queries.QueryFault.{QueryFault}
 use Rattle.vo_spec.specs.Firsts.{first_some}
 use Rattle.vo_spec.specs.Conditions.{Query}
-use Rattle.vo_spec.specs.Results.{BoundSource, bound_sources, binding_fault, schema_at}
+use Rattle.vo_spec.specs.Cuts.{cut_need, limited_need}
+use Rattle.vo_spec.specs.Results.{BoundSource, ColumnPlace, bound_sources, binding_fault, schema_at}
 use Rattle.vo_spec.specs.Records.{table_headers}
 use Rattle.vo_spec.specs.Trees.{RowTree}
-use Rattle.vo_spec.specs.Scans.{seen}
 use Rattle.vo_spec.specs.Pruning.{IsCanonical, is_missing, has_surplus}
-use Rattle.vo_spec.specs.Needs.{tables_used, tree_at, needs, uncut_need, right_needs, seen_row_view}
+use Rattle.vo_spec.specs.Needs.{tables_used, tree_at, needs, left_need, left_limit, right_needs, seen_row_view, seen_row_views}
 use Rattle.vo_spec.specs.Replies.{Reply, FitsReply}
 use Rattle.vo_spec.specs.Checks.{tables_wanted, root_fault, needs_with_trees}
 use Rattle.mb_tree.specs.declared.parts.PartTree.{PartTree}
 use Rattle.mb_tree.specs.View.{part_of}
 use Rattle.query_plan.specs.BoundQueries.{bound_query}
-use Rattle.query_plan.specs.Plans.{QueryPlan, plan_of, meets_left}
-use Rattle.plan_run.specs.Running.{group_needs, needs_of, run_needs}
+use Rattle.query_plan.specs.Plans.{QueryPlan, plan_of, plan_meets, meets_left}
+use Rattle.plan_run.specs.Running.{group_needs, needs_by, run_needs}
 use Rattle.plan_run.proofs.ByNames.{needs_same}
 use Rattle.vo_spec.specs.Walks.{walk, AreOneWalk}
-use Rattle.tree_collide.proofs.OneWalk.{walk_complete, walks_seen}
+use Rattle.vo_laws.proofs.OneCut.{one_cut}
+use Rattle.vo_laws.proofs.ScanWalks.{walk_complete}
+use Rattle.tree_collide.proofs.OneWalk.{walks_seen}
 use Rattle.reply_meeting.specs.Accepting.{HasPassed}
 use Rattle.reply_meeting.specs.Comparing.{AreTwins, AreComparable}
 use Rattle.reply_meeting.proofs.TwinTrees.{zip_with_tables, tables_there, are_twins, are_canonical}
@@ -71,7 +73,7 @@ module _ (q : Query) (r : Reply) where
   needs_canonical : binding_fault (table_headers r.catalog) q ≡ None → HasPassed q r → AllZip IsCanonical (needs ss q r.trees) r.trees
   needs_canonical e passed =
       let given = needed_by false (ap is_some e) in
-      are_canonical (needs ss q r.trees) r.trees (groups_count _ _ _ (uncut_need ss q) (right_needs ss q r.trees) ∙ sym (bound_count e passed))
+      are_canonical (needs ss q r.trees) r.trees (groups_count _ _ _ (left_need ss q (tree_at r.trees 0)) (right_needs ss q r.trees) ∙ sym (bound_count e passed))
       (subst (λ (ts : List (List Need × RowTree)). missing_of ts ≡ None) given passed.complete)
       (subst (λ (ts : List (List Need × RowTree)). surplus_of ts ≡ None) given passed.minimal)
 
@@ -136,20 +138,39 @@ none_missed [] (p ∷ ps) z = absurd z
 none_missed (ns ∷ needs) [] z = absurd z
 none_missed (ns ∷ needs) (p ∷ ps) z = or_from (is_missing ns p) _ z.0.complete (none_missed needs ps z.1)
 
--- The walks for the left need have ends, and by them go all needs.
+-- Where the walks for the uncut need are one, all needs are the same: in a join by what the walks
+-- show, which have ends; else the left need alone is wanted, and the walks cut it alike.
+
+-- the needs of each tree, by the left one
+abbrev needs_from : QueryPlan → Option (ColumnPlace × ColumnPlace) → Option ℕ → RowTree → List (List Need)
+needs_from plan join limit p =
+    let left = limited_need plan.uncut_need (plan_meets plan) (left_limit join limit) p in
+    group_needs plan.query.bound_sources left
+    (flat_map (λ on. flat_map (needs_by plan on) (filter (meets_left plan) (seen_row_views (schema_at plan.query.bound_sources 0) left p))) (option_to_list join))
 
 left_ends : (b : Bool) (left : Need) (rights : List Need) (p : RowTree) (ps : List RowTree) → AllZip IsCanonical (if b then (left ∷ rights) ∷ [] else (left ∷ []) ∷ rights ∷ []) (p ∷ ps) → (walk left p).has_end ≡ true
 left_ends true left rights p ps z = walk_complete [] left rights p z.0.complete
 left_ends false left rights p ps z = walk_complete [] left [] p z.0.complete
 
-needs_by_left : (plan : QueryPlan) (ps qs : List RowTree) → seen plan.uncut_need (tree_at ps 0) ≡ seen plan.uncut_need (tree_at qs 0) → run_needs plan ps ≡ run_needs plan qs
-needs_by_left plan ps qs e =
-    ap (λ (rows : Option (List SeenRow)). group_needs plan.query.bound_sources plan.uncut_need (needs_of plan
-    (filter (meets_left plan) (map (seen_row_view (schema_at plan.query.bound_sources 0) plan.uncut_need.columns) (unwrap_or rows []))))) e
+-- a left need without others, for which nothing is missing
+alone_complete : (b : Bool) (left : Need) (p : RowTree) (ps : List RowTree) → AllZip IsCanonical (if b then (left ∷ []) ∷ [] else (left ∷ []) ∷ [] ∷ []) (p ∷ ps) → is_missing (left ∷ []) p ≡ false
+alone_complete true left p ps z = z.0.complete
+alone_complete false left p ps z = z.0.complete
+
+needs_by_walks : (plan : QueryPlan) (join : Option (ColumnPlace × ColumnPlace)) (limit : Option ℕ) (p q : RowTree) (ps qs : List RowTree) → AreOneWalk (walk plan.uncut_need p) (walk plan.uncut_need q)
+    → AllZip IsCanonical (needs_from plan join limit p) (p ∷ ps) → AllZip IsCanonical (needs_from plan join limit q) (q ∷ qs) → needs_from plan join limit p ≡ needs_from plan join limit q
+needs_by_walks plan None None p q ps qs one y z = refl
+needs_by_walks plan None (Some n) p q ps qs one y z =
+    ap (λ (left : Need). group_needs plan.query.bound_sources left [])
+    (one_cut plan.uncut_need (plan_meets plan) n p q one
+    (alone_complete _ (cut_need plan.uncut_need (plan_meets plan) n p) p ps y) (alone_complete _ (cut_need plan.uncut_need (plan_meets plan) n q) q qs z))
+needs_by_walks plan (Some on) limit p q ps qs one y z =
+    ap (λ (rows : Option (List SeenRow)). group_needs plan.query.bound_sources plan.uncut_need (flat_map (λ on. flat_map (needs_by plan on)
+    (filter (meets_left plan) (map (seen_row_view (schema_at plan.query.bound_sources 0) plan.uncut_need.columns) (unwrap_or rows [])))) (on ∷ [])))
+    (walks_seen plan.uncut_need p q one (left_ends _ plan.uncut_need _ p ps y) (left_ends _ plan.uncut_need _ q qs z))
 
 one_needs : (plan : QueryPlan) (p q : RowTree) (ps qs : List RowTree) → AreComparable plan (p ∷ ps) (q ∷ qs) → AreOneWalk (walk plan.uncut_need p) (walk plan.uncut_need q) → run_needs plan (p ∷ ps) ≡ run_needs plan (q ∷ qs)
-one_needs plan p q ps qs both one =
-    needs_by_left plan (p ∷ ps) (q ∷ qs) (walks_seen plan.uncut_need p q one (left_ends _ plan.uncut_need _ p ps both.canonical) (left_ends _ plan.uncut_need _ q qs both.second_canonical))
+one_needs plan p q ps qs both one = needs_by_walks plan plan.query.join plan.query.limit p q ps qs one both.canonical both.second_canonical
 
 pub same_needs : (plan : QueryPlan) (ps qs : List PartTree) (p q : PartTree) → 0 < length ps → p ≡ get_or ps 0 p → 0 < length qs → q ≡ get_or qs 0 q → AreComparable plan (map part_of ps) (map part_of qs)
     → AreOneWalk (walk plan.uncut_need (part_of p)) (walk plan.uncut_need (part_of q)) → run_needs plan (map part_of ps) ≡ run_needs plan (map part_of qs)

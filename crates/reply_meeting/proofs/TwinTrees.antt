@@ -61,18 +61,18 @@ one_or_two : (P : List ℕ → Type 0) (b : Bool) (left right : List ℕ) → P 
 one_or_two P true left right l r = (l, tt)
 one_or_two P false left right l r = (l, (r, tt))
 
-used_there : (c : Catalog) (items : Items) (left : Source) (join : Option Join) (condition : Option Condition)
-    → let q : Query = record { items = items; left = left; join = join; condition = condition } in
+used_there : (c : Catalog) (items : Items) (left : Source) (join : Option Join) (condition : Option Condition) (limit : Option ℕ)
+    → let q : Query = record { items = items; left = left; join = join; condition = condition; limit = limit } in
     binding_fault (table_headers c) q ≡ None → AllByRecursion (IsThere c) (tables_used (bound_sources (table_headers c) q))
-used_there c items left None condition e =
-    let q : Query = record { items = items; left = left; join = None; condition = condition } in
+used_there c items left None condition limit e =
+    let q : Query = record { items = items; left = left; join = None; condition = condition; limit = limit } in
     let all = sources_there c (sources q) _ e in (all.0, tt)
-used_there c items left (Some j) condition e =
-    let q : Query = record { items = items; left = left; join = Some j; condition = condition } in
+used_there c items left (Some j) condition limit e =
+    let q : Query = record { items = items; left = left; join = Some j; condition = condition; limit = limit } in
     let all = sources_there c (sources q) _ e in one_or_two (IsThere c) _ left.table j.right.table all.0 all.1.0
 
 pub tables_there : (c : Catalog) (q : Query) → binding_fault (table_headers c) q ≡ None → AllByRecursion (IsThere c) (tables_used (bound_sources (table_headers c) q))
-tables_there c q e = used_there c q.items q.left q.join q.condition e
+tables_there c q e = used_there c q.items q.left q.join q.condition q.limit e
 
 -- Their trees have one digest in both.
 

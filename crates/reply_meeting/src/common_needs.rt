@@ -1,5 +1,5 @@
 //! What a query needs of the trees of two replies, which is the same of both where the left trees
-//! give one walk.
+//! give one walk for the uncut need.
 ghost use Rattle.std.specs.Prelude.{◌≡◌, ◌≤◌, length, map, IfOk};
 ghost use Rattle.vo_spec.specs.Batches.{max_columns};
 ghost use Rattle.vo_spec.specs.Results.{schema_at};
@@ -22,7 +22,8 @@ use tree_collide::{Twins, agree_walk};
 use vo_spec::{Collision, ScanFault};
 
 /// None where the trees are the same, else two byte strings of one digest. First come the walks of
-/// the left trees, by which the other trees have the same needs.
+/// the left trees, by which all trees have the same needs: a limit cuts one walk at one row, and
+/// only behind that row may a walk stop.
 pub(crate) fn compare_needed(
     alloc: Global,
     query: &Query<'_>,

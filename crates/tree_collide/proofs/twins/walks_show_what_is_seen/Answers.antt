@@ -1,4 +1,5 @@
-use Rattle.tree_collide.proofs.OneWalk.{walk_seen, walk_complete, walks_seen}
+use Rattle.vo_laws.proofs.ScanWalks.{walk_seen, walk_complete}
+use Rattle.tree_collide.proofs.OneWalk.{walks_seen}
 use Rattle.tree_collide.proofs.twins.walks_show_what_is_seen.Goals as goal
 
 pub returns : goal.returns
