@@ -18,13 +18,14 @@ use Rattle.vo_spec.specs.Parts.{entries}
 use Rattle.vo_spec.specs.Trees.{RowTree}
 use Rattle.vo_spec.specs.Scans.{seen}
 use Rattle.vo_spec.specs.Pruning.{is_missing, prune_tree}
-use Rattle.vo_spec.specs.Needs.{uncut_need, right_needs, same_table}
+use Rattle.vo_spec.specs.Needs.{left_need, right_needs, same_table, tree_at}
 use Rattle.vo_spec.specs.Honest.{Stored, catalog_of, stored_tree, pruned_each}
-use Rattle.vo_laws.proofs.NamedFits.{cells_of, named_fits, named_cells_below}
-use Rattle.vo_laws.proofs.ReplyTrees.{pruned_complete}
+use Rattle.vo_laws.proofs.NamedFits.{named_fits, named_have}
+use Rattle.vo_laws.proofs.OneProof.{pruned_canonical}
+use Rattle.vo_laws.proofs.LeftNeeds.{left_have}
 use Rattle.vo_laws.proofs.ScanLaws.{Shows, complete}
 use Rattle.vo_laws.proofs.StoredFits.{catalog_fits}
-use Rattle.vo_laws.proofs.ExactOutcomes.{named_stands, same_table_headers}
+use Rattle.vo_laws.proofs.TablesByName.{named_stands, same_table_headers}
 use Rattle.vo_laws.proofs.CompleteReplies.{seen_same}
 use Rattle.query_binding.specs.declared.bound_sources.BoundSource.{BoundSource as HeldBoundSource}
 use Rattle.query_binding.specs.HeldSources.{bound_source_seen}
@@ -32,7 +33,7 @@ use Rattle.stored_tables.specs.Representation.{IsStanding}
 use Rattle.query_plan.proofs.Narrow.{bound_sources_narrow}
 use Rattle.query_plan.specs.BoundQueries.{bound_query}
 use Rattle.query_plan.specs.Plans.{QueryPlan, plan_of}
-use Rattle.query_plan.proofs.MeaningLaws.{uncut_need_same}
+use Rattle.query_plan.proofs.MeaningLaws.{left_need_same}
 use Rattle.plan_run.proofs.ByNames.{right_needs_same}
 use Rattle.vo_store.specs.Proving.{HasTable, HasTables, proofs_of, tree_by, left_need_by, right_needs_by, left_proof, plan_proofs}
 
@@ -99,11 +100,11 @@ module _ (stored : List Stored) (standing : IsStanding stored) (q : Query) where
   abbrev ss : List BoundSource
   ss = bound_sources (table_headers (catalog_of stored)) q
 
-  abbrev need : Need
-  need = uncut_need ss q
-
   abbrev tree : ℕ → RowTree
   tree i = stored_tree stored (bound_source_at ss i).table
+
+  abbrev need : Need
+  need = left_need ss q (tree 0)
 
   -- the left table's own proof
   abbrev first : RowTree
@@ -112,16 +113,21 @@ module _ (stored : List Stored) (standing : IsStanding stored) (q : Query) where
   pub narrow : (i : ℕ) → length (schema_at ss i).columns ≤ max_columns
   narrow i = bound_sources_narrow (catalog_of stored) (catalog_fits stored standing.tables standing.stand standing.fit) q i
 
+  -- whatever the tables are, the left need of the whole tree
+  abbrev left_by : List TableHeader → Need
+  left_by hs = left_need (bound_sources hs q) q (stored_tree stored q.left.table)
+
   abbrev IsComplete : List TableHeader → Type 0
-  IsComplete hs = is_missing (uncut_need (bound_sources hs q) q ∷ []) (prune_tree (uncut_need (bound_sources hs q) q ∷ []) (stored_tree stored q.left.table)) ≡ false
+  IsComplete hs = is_missing (left_by hs ∷ []) (prune_tree (left_by hs ∷ []) (stored_tree stored q.left.table)) ≡ false
 
   whole_complete : IsComplete (map table_header_of standing.tables)
   whole_complete =
       let held : List BoundSource = bound_sources (map table_header_of standing.tables) q in
       let rows = rows_named q.left.table standing.tables in
-      let fits = named_fits q.left.table standing.tables standing.fit.each in
-      pruned_complete (cells_of (schema_at held 0)) (uncut_need held q ∷ []) (stored_tree stored q.left.table) rows
-      (named_stands q.left.table stored standing.tables standing.stand) (named_cells_below held q 0 rows fits, tt) fits.cells
+      let stands = named_stands q.left.table stored standing.tables standing.stand in
+      let have = named_have held q rows (named_fits q.left.table standing.tables standing.fit.each) in
+      (pruned_canonical (left_by (map table_header_of standing.tables) ∷ []) (stored_tree stored q.left.table) rows stands
+      (left_have held q (stored_tree stored q.left.table) rows stands have, tt)).complete
 
   first_complete : is_missing (need ∷ []) first ≡ false
   first_complete = subst IsComplete (sym (same_table_headers stored standing.tables standing.stand)) whole_complete
@@ -137,10 +143,13 @@ module _ (stored : List Stored) (standing : IsStanding stored) (q : Query) where
   abbrev rights : List (List ℕ) → List Need
   rights ns = right_needs ss q (map (stored_tree stored) ns)
 
+  abbrev left_of : List (List ℕ) → Need
+  left_of ns = left_need ss q (tree_at (map (stored_tree stored) ns) 0)
+
   -- by the names of the trees that the needs go by, and of those that the reply has
   abbrev proofs_by : Bool → List (List ℕ) → List RowTree
   proofs_by b ns =
-      pruned_each (cond (length (names b) == 1) ((need ∷ rights ns) ∷ []) ((need ∷ []) ∷ rights ns ∷ [])) (map (stored_tree stored) ns)
+      pruned_each (cond (length (names b) == 1) ((left_of ns ∷ rights ns) ∷ []) ((left_of ns ∷ []) ∷ rights ns ∷ [])) (map (stored_tree stored) ns)
 
   abbrev is_one : Bool
   is_one = length ss == 1 || same_table ss
@@ -168,7 +177,7 @@ module _ (stored : List Stored) (standing : IsStanding stored) (q : Query) where
   plan = plan_of (bound_query ss q)
 
   same_need : left_need_by plan stored ≡ need
-  same_need = uncut_need_same ss q
+  same_need = left_need_same ss q (tree 0)
 
   same_proof : left_proof plan stored ≡ first
   same_proof = ap (λ (n : Need). prune_tree (n ∷ []) (tree 0)) same_need

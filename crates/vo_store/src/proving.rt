@@ -18,7 +18,7 @@ ghost use Rattle.vo_store.specs.Proving.{HasTable, HasTables, tree_by, left_need
 
 use mb_tree::{PartTree, Subtree, Tree};
 use plan_run::{left_need, right_needs};
-use query_plan::{BindFault, BoundSource, Plan, Query, bind, copy_need, plan, same_table};
+use query_plan::{BindFault, BoundSource, Plan, Query, bind, plan, same_table};
 use range_proof::prune;
 use std::alloc::{AllocError, Global};
 use std::slice;
@@ -56,13 +56,13 @@ fn needs_by_left(
 fn proof_of_both<'t>(
     alloc: Global,
     tree: &'t Tree,
-    left: &Need,
+    left: Need,
     rights: Vec<Need>,
 ) -> Result<PartTree<'t>, AllocError>
-    ensures { IfOk result (λ proof. part_of proof ≡ prune_tree (left.now ∷ rights.items) tree.now) }
+    ensures { IfOk result (λ proof. part_of proof ≡ prune_tree (left ∷ rights.items) tree.now) }
 {
     let mut needs = rights;
-    needs.insert(0, copy_need(alloc, left)?)?;
+    needs.insert(0, left)?;
     prune(alloc, tree, &needs)
 }
 
@@ -92,10 +92,10 @@ fn two_proofs<'t>(
 fn proofs_of_both<'t>(
     alloc: Global,
     tree: &'t Tree,
-    left: &Need,
+    left: Need,
     rights: Vec<Need>,
 ) -> Result<Vec<PartTree<'t>>, AllocError>
-    ensures { IfOk result (λ proofs. trees_of proofs ≡ prune_tree (left.now ∷ rights.items) tree.now
+    ensures { IfOk result (λ proofs. trees_of proofs ≡ prune_tree (left ∷ rights.items) tree.now
         ∷ []) }
 {
     let proof = proof_of_both(alloc, tree, left, rights)?;
@@ -121,12 +121,14 @@ fn proofs_of_each<'t>(
 /// The proofs of a query of one table.
 fn proofs_of_one<'t>(
     alloc: Global,
+    plan: &Plan<'_, '_>,
     tree: &'t Tree,
-    need: &Need,
 ) -> Result<Vec<PartTree<'t>>, AllocError>
-    ensures { IfOk result (λ proofs. trees_of proofs ≡ prune_tree (need.now ∷ []) tree.now ∷ []) }
+    ensures { IfOk result (λ proofs. trees_of proofs
+        ≡ prune_tree (plan_need (plan_seen plan.now) tree.now ∷ []) tree.now ∷ []) }
 {
-    let proof = prune(alloc, tree, slice::from_ref(need))?;
+    let need = left_need(alloc, plan, tree.root())?;
+    let proof = prune(alloc, tree, slice::from_ref(&need))?;
     one_proof(alloc, proof)
 }
 
@@ -145,12 +147,12 @@ fn joined_proofs<'t>(
     ensures { IfOk result (λ trees. trees_of trees ≡ plan_proofs (plan_seen plan.now) tables.now) }
 {
     let root = left.root();
-    let need = left_need(plan, root);
+    let need = left_need(alloc, plan, root)?;
     let rights = needs_by_left(alloc, plan, root)?;
     if same_table(&plan.query.bound_sources) {
         proofs_of_both(alloc, left, need, rights)
     } else {
-        proofs_of_each(alloc, left, need, tree_of(tables, right.table), &rights)
+        proofs_of_each(alloc, left, &need, tree_of(tables, right.table), &rights)
     }
 }
 
@@ -169,7 +171,7 @@ fn plan_proofs<'t>(
     let left = tree_of(tables, query.bound_sources.left.table);
     match &query.bound_sources.right {
         Some(right) => joined_proofs(alloc, tables, plan, right, left),
-        None => proofs_of_one(alloc, left, left_need(plan, left.root())),
+        None => proofs_of_one(alloc, plan, left),
     }
 }
 

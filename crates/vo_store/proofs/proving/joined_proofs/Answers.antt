@@ -27,7 +27,7 @@ returns-then-same_table c =
     let same : same_table (bound_sources_seen c.args.plan.now.query.now.bound_sources) ≡ true = sym c.same_table.ensures ∙ c.if-same_table.true in
     let two : (length (bound_sources_seen c.args.plan.now.query.now.bound_sources) == 1) ≡ false = ap (λ (r : Option HeldBoundSource). length (beside c.args.plan.now.query.now.bound_sources.left r) == 1) c.requires.joined in
     let root : c.root-root.result.now ≡ tree_by (plan_seen c.args.plan.now) c.args.tables.now 0 = c.root-root.ensures.value ∙ c.requires.tree in
-    let need : c.left_need-need.result.now ≡ left_need_by (plan_seen c.args.plan.now) c.args.tables.now = c.left_need-need.ensures ∙ ap (plan_need (plan_seen c.args.plan.now)) root in
+    let need : c.in_ok-need.need ≡ left_need_by (plan_seen c.args.plan.now) c.args.tables.now = c.in_ok-need.ensures ∙ ap (plan_need (plan_seen c.args.plan.now)) root in
     let rights : c.in_ok-rights.rights.items ≡ right_needs_by (plan_seen c.args.plan.now) c.args.tables.now =
     c.in_ok-rights.ensures ∙ ap (λ (t : RowTree). needs_of (plan_seen c.args.plan.now) (lefts_seen (plan_seen c.args.plan.now) t)) root in
     subst (λ trees. IfOk c.proofs_of_both.result (λ proofs. trees_of proofs ≡ trees))
@@ -44,7 +44,7 @@ returns c =
     let apart : same_table (bound_sources_seen c.args.plan.now.query.now.bound_sources) ≡ false = sym c.same_table.ensures ∙ c.if-same_table.false in
     let two : (length (bound_sources_seen c.args.plan.now.query.now.bound_sources) == 1) ≡ false = ap (λ (r : Option HeldBoundSource). length (beside c.args.plan.now.query.now.bound_sources.left r) == 1) c.requires.joined in
     let root : c.root-root.result.now ≡ tree_by (plan_seen c.args.plan.now) c.args.tables.now 0 = c.root-root.ensures.value ∙ c.requires.tree in
-    let need : c.left_need-need.result.now ≡ left_need_by (plan_seen c.args.plan.now) c.args.tables.now = c.left_need-need.ensures ∙ ap (plan_need (plan_seen c.args.plan.now)) root in
+    let need : c.in_ok-need.need ≡ left_need_by (plan_seen c.args.plan.now) c.args.tables.now = c.in_ok-need.ensures ∙ ap (plan_need (plan_seen c.args.plan.now)) root in
     let rights : c.in_ok-rights.rights.items ≡ right_needs_by (plan_seen c.args.plan.now) c.args.tables.now =
     c.in_ok-rights.ensures ∙ ap (λ (t : RowTree). needs_of (plan_seen c.args.plan.now) (lefts_seen (plan_seen c.args.plan.now) t)) root in
     let right_tree : c.tree_of.result.now ≡ tree_by (plan_seen c.args.plan.now) c.args.tables.now 1 =

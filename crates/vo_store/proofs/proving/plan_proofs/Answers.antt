@@ -1,5 +1,4 @@
 use Rattle.std.proofs.Common.{◌≡◌, ◌==◌, true, [], ◌∷◌, Option, None, Some, length, ap, sym, subst, ◌∙◌, IfOk, arith}
-use Rattle.vo_spec.specs.declared.needs.Need.{Need}
 use Rattle.vo_spec.specs.Trees.{RowTree}
 use Rattle.vo_spec.specs.Scans.{seen}
 use Rattle.vo_spec.specs.Pruning.{prune_tree}
@@ -8,7 +7,7 @@ use Rattle.query_binding.specs.HeldSources.{bound_sources_seen}
 use Rattle.query_plan.specs.Plans.{plan_need}
 use Rattle.query_plan.specs.PlanViews.{plan_seen}
 use Rattle.vo_format.specs.View.{trees_of}
-use Rattle.vo_store.specs.Proving.{HasTables, tree_by, left_need_by}
+use Rattle.vo_store.specs.Proving.{HasTables}
 use Rattle.vo_store.proofs.ProofLaws.{beside, made_alone}
 use Rattle.vo_store.proofs.proving.plan_proofs.Goals as goal
 
@@ -30,11 +29,6 @@ returns-in-None c =
     let p = plan_seen c.args.plan.now in
     let stored = c.args.tables.now in
     let one : (length (bound_sources_seen c.args.plan.now.query.now.bound_sources) == 1) ≡ true = ap (λ (r : Option HeldBoundSource). length (beside c.args.plan.now.query.now.bound_sources.left r) == 1) c.in-None.is in
-    let root : c.root.result.now ≡ c.tree_of-left.result.now = c.root.ensures.value in
-    let left : c.root.result.now ≡ tree_by (plan_seen c.args.plan.now) c.args.tables.now 0 = root ∙ c.tree_of-left.ensures in
-    let need : c.left_need.result.now ≡ left_need_by (plan_seen c.args.plan.now) c.args.tables.now = c.left_need.ensures ∙ ap (plan_need (plan_seen c.args.plan.now)) left in
     subst (λ trees. IfOk c.proofs_of_one.result (λ proofs. trees_of proofs ≡ trees))
-    (ap (λ (n : Need). prune_tree (n ∷ []) c.tree_of-left.result.now ∷ []) need
-    ∙ ap (λ (t : RowTree). prune_tree (left_need_by p stored ∷ []) t ∷ []) c.tree_of-left.ensures
-    ∙ made_alone p stored one)
+    (ap (λ (t : RowTree). prune_tree (plan_need p t ∷ []) t ∷ []) c.tree_of-left.ensures ∙ made_alone p stored one)
     c.proofs_of_one.ensures
