@@ -1,5 +1,5 @@
 -- What is found where a fact fails.
-use Rattle.std.proofs.Common.{◌≡◌, ◌≢◌, ℕ, ◌∷◌, List, true, false, map, Option, Some, None, Result, Ok, Err, is_some, refl, sym, ap, ◌∙◌}
+use Rattle.std.proofs.Common.{◌≡◌, ◌≢◌, ℕ, ◌∷◌, List, true, false, map, Option, Some, None, Result, Ok, Err, is_some, inr, refl, sym, ap, ◌∙◌}
 use Rattle.std.specs.Prelude.{IfOk}
 use Rattle.vo_spec.specs.declared.records.Catalog.{Catalog}
 use Rattle.vo_spec.specs.declared.checks.Answer.{Answer}
@@ -13,8 +13,10 @@ use Rattle.vo_spec.specs.Records.{FitsCatalog, catalog_bytes, catalog_digest, ta
 use Rattle.vo_spec.specs.Checks.{seen_outcome}
 use Rattle.vo_spec.specs.Replies.{Reply}
 use Rattle.vo_spec.specs.Honest.{Stored, RepresentTables, catalog_of}
+use Rattle.vo_laws.specs.FittingTables.{FitTables}
 use Rattle.vo_laws.proofs.CatalogEncoding.{catalog_told}
-use Rattle.vo_laws.proofs.ExactOutcomes.{exact, same_table_headers}
+use Rattle.vo_laws.proofs.TablesByName.{same_table_headers}
+use Rattle.vo_laws.proofs.ExactOutcomes.{exact}
 use Rattle.tree_collide.specs.Agreements.{HoldsOrCollides}
 use Rattle.tree_collide.specs.Preimages.{OfStrings}
 use Rattle.vo_audit.specs.Auditing.{CollidesOr, HasPassed, IsPartOf, seen_answer}
@@ -65,10 +67,10 @@ same_fault q r stored tables fault stand catalog is =
     rw (is, there) refl
 
 -- a reply that shows parts of these tables answers with the query's result
-pub shown_is_result : (q : Query) (r : Reply) (answer : Answer) (stored : List Stored) (tables : List Table) → RepresentTables stored tables
+pub shown_is_result : (q : Query) (r : Reply) (answer : Answer) (stored : List Stored) (tables : List Table) → RepresentTables stored tables → FitTables tables
     → HasPassed q r → answer ≡ seen_answer q r → IsPartOf q r stored → answer.outcome ≡ result q tables
-shown_is_result q r answer stored tables stand passed answer_is part = ap (λ (a : Answer). a.outcome) answer_is ∙ step (binding_fault (table_headers r.catalog) q) refl
+shown_is_result q r answer stored tables stand fit passed answer_is part = ap (λ (a : Answer). a.outcome) answer_is ∙ step (binding_fault (table_headers r.catalog) q) refl
   where
     step : (o : Option QueryFault) → binding_fault (table_headers r.catalog) q ≡ o → seen_outcome q r.catalog r.trees ≡ result q tables
-    step None binds = exact q r stored tables stand (passed.numbers binds) part.catalog part.trees passed.complete
+    step None binds = exact q r stored tables stand (inr fit) (passed.numbers binds) part.catalog part.trees passed.complete
     step (Some fault) is = same_fault q r stored tables fault stand part.catalog is

@@ -10,6 +10,7 @@ use Rattle.vo_spec.specs.declared.records.Entry.{Entry}
 use Rattle.vo_spec.specs.Records.{catalog_digest}
 use Rattle.vo_spec.specs.Journals.{FitsEntry, Holds, IsJournal, batches_of, tables_at}
 use Rattle.vo_spec.specs.Honest.{Stored, RepresentTables, catalog_of, work_all}
+use Rattle.vo_laws.specs.FittingTables.{FitTables}
 use Rattle.vo_laws.proofs.EntryLaws.{fit_at}
 use Rattle.vo_laws.proofs.RepresentationLaws.{stands}
 use Rattle.stored_tables.specs.Representation.{IsStanding}
@@ -102,9 +103,9 @@ departed : (key : List ℕ) (es : List Entry) (departure : Option Departure) →
 departed key es None fit departs = tt
 departed key es (Some d) fit departs = departed_in es d fit departs.1
 
-stand_at : (version : ℕ) (es : List Entry) → AllByRecursion FitsEntry es → RepresentTables (trees_at version es) (tables_at version es)
+stand_at : (version : ℕ) (es : List Entry) → AllByRecursion FitsEntry es → RepresentTables (trees_at version es) (tables_at version es) × FitTables (tables_at version es)
 unfolding tables_at
-stand_at version es fit = (stands (batches_of (take version (drop 1 es))) (fit_at version es fit)).0
+stand_at version es fit = stands (batches_of (take version (drop 1 es))) (fit_at version es fit)
 
 pub read_at : (key bytes : List ℕ) (version : ℕ) (owned : OwnedJournal) → IsOwned key bytes owned.entries
     → IfSome owned.tables (λ tables. tables ≡ trees_at version owned.entries) → (version < length owned.entries → IsSome owned.tables)
@@ -112,11 +113,13 @@ pub read_at : (key bytes : List ℕ) (version : ℕ) (owned : OwnedJournal) → 
 unfolding IsOwned
 read_at key bytes version owned is tables there departs =
     let fit = entries_fit bytes owned.entries is.0 in
+    let at = stand_at version owned.entries fit in
     record {
       some = is.2;
       signed = λ rec holds before. signed_before key owned.entries owned.departure rec departs holds before;
       departed = departed key owned.entries owned.departure fit departs;
-      stand = stand_at version owned.entries fit;
+      stand = at.0;
+      fit = at.1;
       tables = tables;
       there = there;
     }

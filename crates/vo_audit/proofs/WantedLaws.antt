@@ -91,20 +91,20 @@ no_fault : (o : Option QueryFault) → is_some o ≡ false → o ≡ None
 no_fault None e = refl
 no_fault (Some f) e = absurd (cc)
 
-wanted_there_of : (stored : List Stored) (items : Items) (left : Source) (join : Option Join) (condition : Option Condition)
-    → AllByRecursion (IsThere stored) (tables_wanted (record { items = items; left = left; join = join; condition = condition }) (catalog_of stored))
-wanted_there_of stored items left None condition =
-    let q : Query = record { items = items; left = left; join = None; condition = condition } in
+wanted_there_of : (stored : List Stored) (items : Items) (left : Source) (join : Option Join) (condition : Option Condition) (limit : Option ℕ)
+    → AllByRecursion (IsThere stored) (tables_wanted (record { items = items; left = left; join = join; condition = condition; limit = limit }) (catalog_of stored))
+wanted_there_of stored items left None condition limit =
+    let q : Query = record { items = items; left = left; join = None; condition = condition; limit = limit } in
     let fault = binding_fault (table_headers (catalog_of stored)) q in
     alone_there (IsThere stored) (is_some fault) left.table (λ right. (sources_there stored (sources q) _ (no_fault fault right)).0)
-wanted_there_of stored items left (Some j) condition =
-    let q : Query = record { items = items; left = left; join = Some j; condition = condition } in
+wanted_there_of stored items left (Some j) condition limit =
+    let q : Query = record { items = items; left = left; join = Some j; condition = condition; limit = limit } in
     let fault = binding_fault (table_headers (catalog_of stored)) q in
     joined_there (IsThere stored) (is_some fault) (same_table (bound_sources (table_headers (catalog_of stored)) q)) left.table j.right.table
     (λ right. let all = sources_there stored (sources q) _ (no_fault fault right) in (all.0, all.1.0))
 
 wanted_there : (stored : List Stored) (q : Query) → AllByRecursion (IsThere stored) (tables_wanted q (catalog_of stored))
-wanted_there stored q = wanted_there_of stored q.items q.left q.join q.condition
+wanted_there stored q = wanted_there_of stored q.items q.left q.join q.condition q.limit
 
 alone_at : (wrong : Bool) (left right d : List ℕ) (place : ℕ) → place < length (single_table wrong left) → get_or (single_table wrong left) place d ≡ (if place == 0 then left else right)
 alone_at true left right d place h = absurd (omega arith)
@@ -120,18 +120,18 @@ joined_at false false left right d zero h = refl
 joined_at false false left right d (suc zero) h = refl
 joined_at false false left right d (suc (suc place)) h = absurd (omega arith)
 
-wanted_at_of : (items : Items) (left : Source) (join : Option Join) (condition : Option Condition) (c : Catalog) (d : List ℕ) (place : ℕ)
-    → let q : Query = record { items = items; left = left; join = join; condition = condition } in
+wanted_at_of : (items : Items) (left : Source) (join : Option Join) (condition : Option Condition) (limit : Option ℕ) (c : Catalog) (d : List ℕ) (place : ℕ)
+    → let q : Query = record { items = items; left = left; join = join; condition = condition; limit = limit } in
     place < length (tables_wanted q c) → get_or (tables_wanted q c) place d ≡ table_at q place
-wanted_at_of items left None condition c d place h =
-    let q : Query = record { items = items; left = left; join = None; condition = condition } in
+wanted_at_of items left None condition limit c d place h =
+    let q : Query = record { items = items; left = left; join = None; condition = condition; limit = limit } in
     alone_at (is_some (binding_fault (table_headers c) q)) left.table left.table d place h
-wanted_at_of items left (Some j) condition c d place h =
-    let q : Query = record { items = items; left = left; join = Some j; condition = condition } in
+wanted_at_of items left (Some j) condition limit c d place h =
+    let q : Query = record { items = items; left = left; join = Some j; condition = condition; limit = limit } in
     joined_at (is_some (binding_fault (table_headers c) q)) (same_table (bound_sources (table_headers c) q)) left.table j.right.table d place h
 
 wanted_at : (q : Query) (c : Catalog) (d : List ℕ) (place : ℕ) → place < length (tables_wanted q c) → get_or (tables_wanted q c) place d ≡ table_at q place
-wanted_at q c d place h = wanted_at_of q.items q.left q.join q.condition c d place h
+wanted_at q c d place h = wanted_at_of q.items q.left q.join q.condition q.limit c d place h
 
 -- Trees of the tables' digests.
 

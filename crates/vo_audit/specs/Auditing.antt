@@ -23,6 +23,7 @@ use Rattle.vo_spec.specs.Replies.{Reply}
 use Rattle.vo_spec.specs.Checks.{tables_wanted, trees_of, root_fault, missing_fault, seen_outcome, answer_to}
 use Rattle.vo_spec.specs.Honest.{Stored, RepresentTables, catalog_of, trees_for}
 use Rattle.vo_spec.specs.Audits.{IsVerdict}
+use Rattle.vo_laws.specs.FittingTables.{FitTables}
 use Rattle.vo_format.specs.declared.reply.Reply.{Reply as ReadReply}
 use Rattle.tree_collide.specs.Preimages.{OfStrings}
 use Rattle.stored_tables.specs.Representation.{IsStanding}
@@ -88,6 +89,7 @@ pub record IsReadAt (version : ℕ) (owned : OwnedJournal) : Type 0 where
       → rec.catalog ≡ catalog_digest (catalog_of (trees_at rec.version owned.entries))
   pub departed : IfSome owned.departure (IsDepartureIn owned.entries)
   pub stand : RepresentTables (trees_at version owned.entries) (tables_at version owned.entries)
+  pub fit : FitTables (tables_at version owned.entries)
   pub tables : IfSome owned.tables (λ tables. tables ≡ trees_at version owned.entries)
   pub there : version < length owned.entries → IsSome owned.tables
 

@@ -8,6 +8,7 @@ ghost use Rattle.vo_spec.specs.Records.{catalog_digest};
 ghost use Rattle.vo_spec.specs.Replies.{FitsReply};
 ghost use Rattle.vo_spec.specs.Honest.{RepresentTables, catalog_of};
 ghost use Rattle.vo_spec.specs.Audits.{IsVerdict};
+ghost use Rattle.vo_laws.specs.FittingTables.{FitTables};
 ghost use Rattle.vo_format.specs.View.{reply_of};
 ghost use Rattle.vo_audit.specs.Auditing.{HasPassed, IsBefore, IsDepartureIn, IsHeldVerdict, IsReadAt, seen_answer};
 ghost use Rattle.vo_audit.specs.Showing.{AreFound, AreOfProofs, AreOfReply, Shows};
@@ -48,7 +49,7 @@ fn verdict_by(
     requires passed { HasPassed (query_of query.now) (reply_of reply.now) }
     requires answer { answer.now ≡ seen_answer (query_of query.now) (reply_of reply.now) }
     requires held { reply.now.rec.catalog ≡ catalog_digest (catalog_of tables.now) }
-    ensures held { (plain : List Table) → RepresentTables tables.now plain
+    ensures held { (plain : List Table) → RepresentTables tables.now plain → FitTables plain
         → IfOk result (λ verdict. IsHeldVerdict plain (query_of query.now) answer.now verdict) }
     ensures shown { IfOk result (λ verdict.
         Shows verdict (AreOfReply (query_of query.now) (reply_of reply.now) tables.now)) }

@@ -91,6 +91,7 @@ selection low high = record {
   left = source (codes "t");
   join = None;
   cond = Some (between (column (codes "id")) low high);
+  limit = None;
 }
 
 -- SELECT a.id, b.name FROM t AS a JOIN t AS b ON a.boss = b.id WHERE a.id >= low AND a.id < high
@@ -104,6 +105,7 @@ join_query low high = record {
     right_ref = column_of (codes "b") (codes "id");
   });
   cond = Some (between (column_of (codes "a") (codes "id")) low high);
+  limit = None;
 }
 
 abbrev pub is_even : ℕ → Bool

@@ -67,6 +67,7 @@ fn selection(alloc: Global, low: u32, high: u32) -> Result<QueryText, AllocError
         left: source(alloc, "t")?,
         join: None,
         cond: Some(between(alloc, from, to, low, high)?),
+        limit: None,
     })
 }
 
@@ -94,6 +95,7 @@ fn join_query(alloc: Global, low: u32, high: u32) -> Result<QueryText, AllocErro
         left: source(alloc, "a")?,
         join: Some(boss_join(alloc)?),
         cond: Some(between(alloc, from, to, low, high)?),
+        limit: None,
     })
 }
 

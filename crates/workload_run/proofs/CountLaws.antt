@@ -3,7 +3,7 @@ use Rattle.std.proofs.Common.{◌≡◌, ℕ, zero, suc, ◌+◌, ◌*◌, ◌<�
 use Rattle.std.specs.Prelude.{slice_index_or, filter, flat_map, bytes_eq, codes}
 use Rattle.std.specs.Option.{option_map_or}
 use Rattle.std.proofs.lemmas.Grind.{flat_map-append}
-use Rattle.std.proofs.lemmas.List.{length-append, length-map, take_more}
+use Rattle.std.proofs.lemmas.List.{length-append, length-map, length-take, take_more}
 use Rattle.vo_spec.specs.declared.queries.Join.{Join}
 use Rattle.vo_spec.specs.declared.queries.QueryFault.{QueryFault}
 use Rattle.vo_spec.specs.declared.queries.QueryText.{QueryText}
@@ -11,7 +11,7 @@ use Rattle.vo_spec.specs.declared.tables.Table.{Table}
 use Rattle.vo_spec.specs.declared.values.Row.{Row}
 use Rattle.vo_spec.specs.declared.values.Value.{Value}
 use Rattle.vo_spec.specs.Conditions.{Query, query_of}
-use Rattle.vo_spec.specs.Results.{BoundSource, RowView, answer_rows, binding_fault, bound_sources, combinations, header, is_answer, outcome, place_value, result, row_view_of, row_views_at, schema_at, shown_places, bound_source_at}
+use Rattle.vo_spec.specs.Results.{BoundSource, RowView, answer_rows, binding_fault, bound_sources, combinations, first_rows, header, is_answer, outcome, place_value, result, row_view_of, row_views_at, schema_at, shown_places, unlimited_rows, bound_source_at}
 use Rattle.vo_spec.specs.Tables.{rows_named, table_header_of}
 use Rattle.vo_laws.proofs.CommandLaws.{filter_shorter}
 use Rattle.vo_gen.specs.Workload.{max_steps, tables_of}
@@ -103,6 +103,11 @@ shown_few : (fault : Option QueryFault) (titles : List (List ℕ)) (rows : List 
 shown_few None titles rows = omega arith
 shown_few (Some fault) titles rows = omega arith
 
+first_few : (limit : Option ℕ) (rows : List (List Value))
+    → length (first_rows limit rows) ≤ length rows
+first_few None rows = omega arith
+first_few (Some n) rows = omega (arith, length-take n rows)
+
 result_few : (q : Query) (rows : List Row) → length rows ≤ max_steps
     → length (rows_of (result q (tables_of rows))) ≤ most_rows
 unfolding result
@@ -117,6 +122,7 @@ result_few q rows few =
       arith,
       shown_few (binding_fault (map table_header_of tables) q) (header ss q.items)
           (answer_rows ss q lefts (λ left. rights)),
+      first_few q.limit (unlimited_rows ss q lefts (λ left. rights)),
       length-map met (λ (rs : List RowView). map (place_value rs) (shown_places ss q.items)),
       filter_shorter (is_answer ss q) all,
       combined q.join lefts rights (views_few rows ss 0 few) (views_few rows ss 1 few),

@@ -31,7 +31,7 @@ returns-in-None-departure_by-clause-verdict c =
     subst (λ (found : Option (List Stored)). IfSome found (λ tables. tables ≡ trees_at version es)) c.in-Some.is c.requires.read.tables in
     held_verdict es (query_of c.args.query.now) r c.args.answer.now c.verdict_by.result
     (is_held es c.as_slice.result.now r.rec c.holds.result c.holds.ensures c.as_slice.ensures c.if-not-holds.false) c.requires.answer
-    (c.verdict_by.ensures.held (tables_at version es) (subst (λ (stored : List Stored). RepresentTables stored (tables_at version es)) (sym is) c.requires.read.stand))
+    (c.verdict_by.ensures.held (tables_at version es) (subst (λ (stored : List Stored). RepresentTables stored (tables_at version es)) (sym is) c.requires.read.stand) c.requires.read.fit)
 
 pub returns-in-Some-departure_by-clause-verdict : goal.returns-in-Some-departure_by-clause-verdict
 returns-in-Some-departure_by-clause-verdict c =
