@@ -3,6 +3,7 @@ from lines.check_answers import NO_LINE, Reader
 from reference.binding import bind
 from reference.catalog import Catalog, CatalogTable, Record
 from reference.formats import REPLY_LIMIT, read_reply, write_reply
+from reference.generators.cuts import cut_variants
 from reference.generators.mutate import at_path, marked_catalogs, put_at, resign, rooted, shallow, spots
 from reference.generators.worlds import SECRET, history
 from reference.lms import SecretKey
@@ -21,7 +22,7 @@ def rows():
     for cases in (no_lines, honest_replies, honest_joins, queries_that_do_not_bind, other_keys, longest_values, wide_rows,
                   records_and_signatures, catalogs, counts_of_trees, roots, shapes, missing_parts, surplus_parts, levels,
                   fronts, longer_replies, no_replies, first_faults, hostile_joins, hostile_replies_of_no_trees, null_replies,
-                  words_and_marks, hostile_nulls):
+                  words_and_marks, hostile_nulls, limited_replies, hostile_limits):
         yield from cases()
 
 
@@ -470,6 +471,47 @@ def hostile_nulls():
     left, right = honest.trees
     yield from checked(honest, honest.rewritten(trees=[left]), honest.rewritten(trees=[left, right, right]),
                        honest.rewritten(trees=[left, honest.node_of(1, ())]))
+
+
+# -- LIMIT
+
+def limited_replies():
+    # of fewer rows than there are and of more, of none, of one leaf and of several; rows that the condition drops before
+    texts = ["SELECT name FROM t LIMIT 3", "SELECT * FROM t LIMIT 8", "SELECT id FROM t WHERE id > 7 LIMIT 9",
+             "SELECT name FROM t WHERE NOT name = 'ann' AND id > 20 LIMIT 7", "SELECT id FROM t WHERE sold = TRUE LIMIT 4",
+             "SELECT id FROM t WHERE name = 'nobody' LIMIT 1", "SELECT id FROM t WHERE id > 145 LIMIT 4294967295",
+             "SELECT id FROM t WHERE id > 9 AND id < 8 LIMIT 1", "SELECT n FROM u WHERE k >= 'x' LIMIT 2", "SELECT * FROM e LIMIT 1",
+             "SELECT nope FROM t LIMIT 1", "SELECT * FROM nowhere LIMIT 1"]
+    for text in texts:
+        reader, lines = Honest(text).begun()
+        yield from lines
+        yield from reader.checks(*EACH, "3+1+500")
+        yield reader.held("61+500")
+    for text in ("SELECT id FROM t WHERE name IS NULL LIMIT 2", "SELECT id FROM t WHERE NOT boss > 3 LIMIT 5"):
+        reader, lines = Honest(text, NULL_STORE).begun()
+        yield from (*lines, *reader.checks(*EACH))
+    reader, lines = Honest("SELECT name FROM t LIMIT 3").begun()
+    yield from (*lines, *reader.checks("1", least=3), *reader.checks("1", least=4), reader.fronts("50"), reader.fronts("4096", 9))
+
+
+def cut_replies(honest):
+    """Replies changed around the cut, those of true digests first."""
+    return [data for _, data in cut_variants(SECRET, honest.data, STORE.kept[-1], parse_query(honest.text))]
+
+
+def hostile_limits():
+    # more and fewer rows than the count, with true digests; rows and separators changed at the cut, under a valid signature
+    honest = Honest("SELECT name FROM t WHERE id > 9 LIMIT 7")
+    others = cut_replies(honest)
+    yield from checked(honest, *others[:10], *others[10::3])
+    for text in "SELECT id FROM t LIMIT 8", "SELECT name FROM t WHERE sold = TRUE LIMIT 3":
+        yield from checked(Honest(text), *cut_replies(Honest(text))[:10])
+    yield from checked(honest, honest.data + b"\0", honest.data[:-1], honest.with_record(ident=bytes(16)),
+                       honest.rewritten(trees=[honest.tree] * 2), honest.rewritten(trees=[]),
+                       honest.rewritten(trees=[honest.closed(())]), honest.rewritten(trees=[Leaf([])]))
+    # held up to the greatest length, and not beyond
+    reader, lines = honest.begun()
+    yield from (*lines, *reader.hostile(bytes(REPLY_LIMIT + 99), "65536"), reader.held(f"{REPLY_LIMIT}+1"))
 
 
 # -- other queries

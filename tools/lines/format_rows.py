@@ -626,6 +626,20 @@ def answer_rows():
     yield "answer", public, b"SELECT * FROM t", b"\0"
     yield "answer", public, b"SELECT * FROM t", journal[:2000] + b"\0"
     yield "answer", turned(public, 55), b"SELECT * FROM t", journal
+    # the first of two rows, the second, which is the first that meets the condition, and both
+    yield "answer", public, b"SELECT name FROM t LIMIT 1", journal
+    yield "answer", public, b"SELECT id FROM t WHERE name = 'bob' LIMIT 1", journal
+    yield "answer", public, b"SELECT * FROM t LIMIT 4294967295", journal
+    yield from page_rows(secret)
+
+
+def page_rows(secret):
+    """Replies to queries with a limit by a tree of two leaves: the cut in the first of them, and in the second."""
+    rows = "".join(f"INSERT INTO t VALUES ({id}, '{id % 3}');" for id in range(17))
+    public, journal = secret.public().bytes(), seal_batches(secret, batches_of(CREATE + rows))
+    yield seal_row(CREATE + rows)
+    yield "answer", public, b"SELECT * FROM t WHERE id >= 2 LIMIT 3", journal
+    yield "answer", public, b"SELECT id FROM t WHERE name = '2' LIMIT 4", journal
 
 
 # -- owners with roots alone

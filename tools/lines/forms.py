@@ -75,7 +75,8 @@ def condition(cond):
 def query(thing):
     refs = getattr(thing.items, "refs", None)
     items = "all" if refs is None else list_of(map(reference, refs))
-    return form("query", items, source(thing.left), or_none(thing.join, join), or_none(thing.cond, condition))
+    limit = [] if thing.limit is None else [str(thing.limit)]
+    return form("query", items, source(thing.left), or_none(thing.join, join), or_none(thing.cond, condition), *limit)
 
 
 def outcome(result):

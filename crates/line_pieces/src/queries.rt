@@ -47,6 +47,9 @@ impl WriteForm for QueryText {
         put_argument(alloc, out, &self.left)?;
         put_argument(alloc, out, &self.join)?;
         put_argument(alloc, out, &self.cond)?;
+        if let Some(rows) = self.limit {
+            put_argument(alloc, out, &u64::from(rows))?;
+        }
         end_form(out)
     }
 }
