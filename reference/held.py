@@ -2,7 +2,7 @@
 
 Before the catalog's last byte these are all that came. Behind it they are the head, what is kept of the rows that the
 query needs (their keys, and the values of named columns as they are encoded) and the bytes of a token that isn't whole.
-Of a reply to a query with a join they are all, up to the limit.
+Of a reply to a query with a join or a LIMIT they are all, as long as a reply may be.
 """
 
 from .binding import bind
@@ -13,8 +13,8 @@ from .values import holds, value_bytes
 
 
 def held_behind(query, data, ends):
-    """The counts behind fronts of these lengths, of a reply that can be read, or is to a query with a join."""
-    if query.join:
+    """The counts behind fronts of these lengths, of a reply that can be read, or is kept."""
+    if query.join is not None or query.limit is not None:
         return [end if end <= REPLY_LIMIT else 0 for end in ends]
     counts = held_counts(query, read_reply(data))
     return [counts[end] for end in ends]

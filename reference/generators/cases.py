@@ -6,6 +6,7 @@ from ..formats import slot_bytes
 from ..printing import print_batch
 from ..sql import parse_query
 from ..stages import has
+from .cuts import cut_variants
 from .mutate import opened_variants, reply_variants, resigned_variants
 from .odd_trees import odd_replies
 from .texts import GOOD_SCRIPTS, GOOD_TEXTS, all_near, edge_queries, edge_scripts
@@ -244,6 +245,7 @@ def hostile_cases(rng, seed, size):
             variants += list(opened_variants(data, world.store.kept[-1], query))[:60]
             variants += list(resigned_variants(world.secret, data, query, rng, 25))
             variants += list(odd_replies(world.secret, data, query, rng, 25))
+            variants += list(cut_variants(world.secret, data, world.store.kept[-1], query))
             for name, other in variants:
                 yield "hostile " + name, ["check", world.public_bytes, text, other]
             for name, other in rng.sample(variants, 10):

@@ -10,6 +10,7 @@ import random
 import sys
 
 from ..sql import parse_query
+from .cuts import cut_variants
 from .mutate import opened_variants, reply_variants, verdicts
 from .odd_trees import odd_replies
 from .workload import Workload
@@ -28,6 +29,7 @@ def main(words):
         variants = list(reply_variants(data, rng, 40))
         variants += list(opened_variants(data, store.kept[-1], query))
         variants += list(odd_replies(SECRET, data, query, rng, 10))
+        variants += list(cut_variants(SECRET, data, store.kept[-1], query))
         print("#", text)
         for name, raw, status, lines in verdicts(SECRET.public(), 0, query, variants):
             print(status, lines[-1] if status else len(lines), "|", name, "|", raw.hex())

@@ -18,6 +18,7 @@ from ..values import BOOL, INT, NULL, TEXT, bool_value, int_value, literal, text
 TEXTS = ["", "a", "ab", "b", "ann", "bob", "it''s".replace("''", "'"), "x y", "\u00e9t\u00e9",
          "\u4e2d\u6587", "%_", "zz", "A", "Z", "\U0001f600", "0", "10", "9"]
 OPS = ["=", "<>", "<", "<=", ">", ">=", "!="]
+COUNTS = [1, 1, 2, 2, 3, 4, 5, 7, 8, 9, 12, 16, 17, 30, 100, 4_294_967_295]
 
 
 def _is_text(batch):
@@ -209,8 +210,8 @@ class Workload:
         text = f"SELECT {self._items(refs)} FROM {left}"
         if rng.random() < 0.85:
             text += " WHERE " + self._cond(refs, 0)
-        if has("limit") and rng.random() < 0.25:
-            text += f" LIMIT {rng.choice([1, 2, 3, 5, 10, 100])}"
+        if has("limit") and rng.random() < 0.5:
+            text += f" LIMIT {rng.choice(COUNTS)}"
         return text
 
     def _refs(self, sources):

@@ -7,7 +7,7 @@ TOP = os.path.dirname(os.path.dirname(os.path.dirname(os.path.abspath(__file__))
 
 # What is built is all that docs/FORMATS.md has. The implementation in reference/ has more, which
 # reference/stages.py lists: of those features these are built here too.
-BUILT = ("levels", "evidence", "versions", "workload", "nulls")
+BUILT = ("levels", "evidence", "versions", "workload", "nulls", "limit")
 
 # It signs what comparisons and benches make, one journal after the other: nothing that is kept may
 # be signed by it.
