@@ -14,13 +14,13 @@ use Rattle.mb_tree.specs.Layouts.{leaf_layout, inner_layout}
 use Rattle.mb_tree.proofs.SubtreeLaws.{count_open_parts, child_bytes_open_parts}
 use Rattle.mb_tree.proofs.PartLaws.{count_parts_of, child_bytes_parts_of}
 
-pub whole_leaf : (rows : List Row) → leaf_layout (λ row. entry_bytes (whole_entry row)) rows ≡ preimage (leaf (map whole_entry rows))
+pub whole_leaf : (rows : List Row) → leaf_layout 3 (λ row. entry_bytes (whole_entry row)) rows ≡ preimage (leaf (map whole_entry rows))
 whole_leaf rows = rw (length-map, flat_map-map) refl
 
-pub whole_inner : (ss : List (List ℕ)) (ts : List RowTree) → inner_layout string digest ss ts ≡ preimage (inner ss (open_parts ts))
+pub whole_inner : (ss : List (List ℕ)) (ts : List RowTree) → inner_layout 4 string digest ss ts ≡ preimage (inner ss (open_parts ts))
 whole_inner ss ts = rw (count_open_parts ts, child_bytes_open_parts ts) refl
 
-pub part_inner : (ss : List (List ℕ)) (ps : List PartTree) → inner_layout string (λ p. digest (part_of p)) ss ps ≡ preimage (inner ss (parts_of ps))
+pub part_inner : (ss : List (List ℕ)) (ps : List PartTree) → inner_layout 4 string (λ p. digest (part_of p)) ss ps ≡ preimage (inner ss (parts_of ps))
 part_inner ss ps = rw (count_parts_of ps, child_bytes_parts_of ps, flat_map-map) refl
 
 -- the children of a node that fits

@@ -8,6 +8,11 @@ ghost use Rattle.mb_tree.specs.Layouts.{leaf_layout, head_layout, inner_layout};
 use row_bytes::ByteSink;
 use vo_spec::u16_bytes;
 
+/// The first byte of a leaf and of an inner node, in trees of rows.
+pub const LEAF_TAG: u8 = 3;
+
+pub const INNER_TAG: u8 = 4;
+
 /// An entry, a separator or a child of a node.
 pub trait NodeItem {
     // what the node's preimage has of it
@@ -26,14 +31,18 @@ pub trait NodeItem {
 }
 
 /// A leaf is its first byte, the count of its entries and these.
-pub fn write_leaf<W: ByteSink, E: NodeItem>(writer: &mut W, entries: &[E]) -> Result<(), W::Fault>
+pub fn write_leaf<W: ByteSink, E: NodeItem>(
+    writer: &mut W,
+    tag: u8,
+    entries: &[E],
+) -> Result<(), W::Fault>
     requires count { length entries.now ≤ max_fill }
     requires can { All E.CanWrite entries.now }
     ensures value { OnOk result
-        (Writes W.HoldsBytes writer.old writer.new (leaf_layout E.bytes entries.now)) }
+        (Writes W.HoldsBytes writer.old writer.new (leaf_layout tag E.bytes entries.now)) }
     ensures fits { OnOk result (All E.Fits entries.now) }
 {
-    write_start(writer, 3, entries.len())?;
+    write_start(writer, tag, entries.len())?;
     write_items(writer, entries)
 }
 
@@ -41,6 +50,7 @@ pub fn write_leaf<W: ByteSink, E: NodeItem>(writer: &mut W, entries: &[E]) -> Re
 /// children's digests.
 pub fn write_inner<W: ByteSink, K: NodeItem, C: NodeItem>(
     writer: &mut W,
+    tag: u8,
     separators: &[K],
     children: &[C],
 ) -> Result<(), W::Fault>
@@ -48,27 +58,29 @@ pub fn write_inner<W: ByteSink, K: NodeItem, C: NodeItem>(
     requires can_keys { All K.CanWrite separators.now }
     requires can { All C.CanWrite children.now }
     ensures value { OnOk result (Writes W.HoldsBytes writer.old writer.new
-        (inner_layout K.bytes C.bytes separators.now children.now)) }
+        (inner_layout tag K.bytes C.bytes separators.now children.now)) }
     ensures keys { OnOk result (All K.Fits separators.now) }
     ensures fits { OnOk result (All C.Fits children.now) }
 {
-    write_inner_head(writer, separators, children.len())?;
+    write_inner_head(writer, tag, separators, children.len())?;
     write_items(writer, children)
 }
 
 /// What an inner node has before the digests of its children.
 pub fn write_inner_head<W: ByteSink, K: NodeItem>(
     writer: &mut W,
+    tag: u8,
     separators: &[K],
     children: usize,
 ) -> Result<(), W::Fault>
     requires count { children ≤ max_fill }
     requires can { All K.CanWrite separators.now }
     ensures value { OnOk result
-        (Writes W.HoldsBytes writer.old writer.new (head_layout K.bytes separators.now children)) }
+        (Writes W.HoldsBytes writer.old writer.new
+        (head_layout tag K.bytes separators.now children)) }
     ensures fits { OnOk result (All K.Fits separators.now) }
 {
-    write_start(writer, 4, children)?;
+    write_start(writer, tag, children)?;
     write_items(writer, separators)
 }
 

@@ -21,8 +21,12 @@ mod tree_key;
 mod whole_items;
 
 pub use entries::{HashedCells, TreeEntry};
-pub use lending::lend_keys;
+pub use hashing::leaf_digest;
+pub use layout::{NodeItem, write_inner, write_inner_head, write_key};
+pub use lending::{inner_part, lend_keys};
+pub use node_hasher::NodeHasher;
 pub use parts::{Children, PartTree};
+pub use preimages::{inner_preimage, leaf_preimage};
 pub use row_node::{RowEntry, RowNode};
 pub use subtrees::{Node, Subtree};
 pub use tree::Tree;

@@ -6,7 +6,7 @@ ghost use Rattle.vo_spec.specs.Fits.{FitsPart, FitsEach, FitsEntry, FitsKey, max
 ghost use Rattle.mb_tree.specs.View.{part_of, parts_of};
 
 use crate::hashing::leaf_digest;
-use crate::layout::write_inner_head;
+use crate::layout::{INNER_TAG, LEAF_TAG, write_inner_head};
 use crate::node_hasher::NodeHasher;
 use crate::parts::PartTree;
 use vo_spec::{Digest, KeyPart};
@@ -23,7 +23,7 @@ impl PartTree<'_> {
     {
         match self {
             PartTree::Stub(digest) => *digest,
-            PartTree::Leaf(entries) => leaf_digest(entries.as_slice()),
+            PartTree::Leaf(entries) => leaf_digest(LEAF_TAG, entries.as_slice()),
             PartTree::Inner {
                 separators,
                 children,
@@ -43,7 +43,7 @@ fn inner_digest(separators: &[KeyPart<'_>], children: &[PartTree<'_>]) -> Digest
     ensures { result ≡ digest (inner separators.now (parts_of children.now)) }
 {
     let mut hasher = NodeHasher::new();
-    let Ok(()) = write_inner_head(&mut hasher, separators, children.len());
+    let Ok(()) = write_inner_head(&mut hasher, INNER_TAG, separators, children.len());
     for child in children {
         hasher.add(child.node_digest().as_bytes());
     }

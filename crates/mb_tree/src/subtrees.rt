@@ -9,7 +9,7 @@ ghost use Rattle.mb_tree.specs.Whole.{whole_of};
 
 use crate::entries::TreeEntry;
 use crate::hashing::leaf_digest;
-use crate::layout::write_inner_head;
+use crate::layout::{INNER_TAG, LEAF_TAG, write_inner_head};
 use crate::node_hasher::NodeHasher;
 use crate::tree_key::TreeKey;
 use btree::try_clone_all;
@@ -166,7 +166,7 @@ fn digest_of_node(node: &Node) -> Digest
     ensures fits { FitsPart (whole_of node.now) }
 {
     match node {
-        Node::Leaf(entries) => leaf_digest(entries),
+        Node::Leaf(entries) => leaf_digest(LEAF_TAG, entries),
         Node::Inner {
             separators,
             children,
@@ -185,7 +185,7 @@ fn inner_digest(separators: &[TreeKey], children: &[Subtree]) -> Digest
     ensures fits { All FitsPart children.now }
 {
     let mut hasher = NodeHasher::new();
-    let Ok(()) = write_inner_head(&mut hasher, separators, children.len());
+    let Ok(()) = write_inner_head(&mut hasher, INNER_TAG, separators, children.len());
     for child in children {
         hasher.add(child.node_digest().as_bytes());
     }

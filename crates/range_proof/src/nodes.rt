@@ -2,30 +2,13 @@
 ghost use Rattle.std.specs.Prelude.{◌≡◌, map, slice_get, IfOk};
 ghost use Rattle.std.specs.Option.{option_copied};
 ghost use Rattle.vo_spec.specs.Cells.{whole_entry};
-ghost use Rattle.vo_spec.specs.Parts.{inner};
 ghost use Rattle.vo_spec.specs.Pruning.{shown_entry};
-ghost use Rattle.mb_tree.specs.View.{part_of};
 
 use crate::active_needs::ActiveNeeds;
 use attr_digest::hide_cells;
-use mb_tree::{Children, PartTree, TreeEntry, TreeKey, lend_keys};
+use mb_tree::{TreeEntry, TreeKey};
 use std::alloc::{AllocError, Global};
 use vo_spec::{KeyPart, List, PartEntry, RowPart};
-
-/// The inner node of these children.
-pub fn inner_part<'b>(
-    alloc: Global,
-    separators: &'b [TreeKey],
-    children: Children<'b>,
-) -> Result<PartTree<'b>, AllocError>
-    ensures { IfOk result (λ part. part_of part ≡ inner separators.now children.entry) }
-{
-    let separators = lend_keys(alloc, separators)?;
-    Ok(PartTree::Inner {
-        separators,
-        children,
-    })
-}
 
 /// The separator behind the child at this place; none behind the last.
 pub fn separator_at(separators: &[TreeKey], place: usize) -> Option<&[u8]>

@@ -5,9 +5,9 @@ ghost use Rattle.vo_spec.specs.Pruning.{pruned_by, pruned_in, walk_for};
 ghost use Rattle.mb_tree.specs.View.{part_of};
 
 use crate::active_needs::ActiveNeeds;
-use crate::nodes::{inner_part, prune_entries, separator_at};
+use crate::nodes::{prune_entries, separator_at};
 use key_intervals::visits_from;
-use mb_tree::{Children, Node, PartTree, Subtree, TreeKey};
+use mb_tree::{Children, Node, PartTree, Subtree, TreeKey, inner_part};
 use std::alloc::{AllocError, Global};
 use vo_spec::Need;
 

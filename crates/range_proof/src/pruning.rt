@@ -6,9 +6,9 @@ ghost use Rattle.mb_tree.specs.View.{part_of};
 
 use crate::active_needs::ActiveNeeds;
 use crate::need_lists::lend_needs;
-use crate::nodes::{inner_part, prune_entries, separator_at};
+use crate::nodes::{prune_entries, separator_at};
 use crate::prune_for_one::prune_children_for_one;
-use mb_tree::{Children, Node, PartTree, Subtree, Tree, TreeKey};
+use mb_tree::{Children, Node, PartTree, Subtree, Tree, TreeKey, inner_part};
 use std::alloc::{AllocError, Global};
 use vo_spec::Need;
 

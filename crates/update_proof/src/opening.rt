@@ -11,9 +11,9 @@ ghost use Rattle.update_proof.specs.Proving.{update_proof};
 use crate::change::{Change, change_of, key_of, step_of};
 use crate::opening_rows::open_rows;
 use crate::replacing::with_item;
-use crate::stubs::{hash_subtrees, inner_part, open_node};
+use crate::stubs::{hash_subtrees, open_node};
 use btree::{Step, sibling_of};
-use mb_tree::{Children, Node, PartTree, Subtree, Tree, TreeKey};
+use mb_tree::{Children, Node, PartTree, Subtree, Tree, TreeKey, inner_part};
 use mb_update::Op;
 use std::alloc::{AllocError, Global};
 

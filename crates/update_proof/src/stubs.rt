@@ -2,12 +2,11 @@
 ghost use Rattle.std.specs.Prelude.{◌≡◌, map, IfOk};
 ghost use Rattle.vo_spec.specs.Cells.{whole_entry};
 ghost use Rattle.vo_spec.specs.Inserts.{closed_entry};
-ghost use Rattle.vo_spec.specs.Parts.{inner};
 ghost use Rattle.vo_spec.specs.Removes.{opened_sibling};
 ghost use Rattle.mb_tree.specs.View.{part_of};
 ghost use Rattle.update_proof.specs.OpenParts.{closed_tree};
 
-use mb_tree::{Children, Node, PartTree, Subtree, TreeEntry, TreeKey, lend_keys};
+use mb_tree::{Children, Node, PartTree, Subtree, TreeEntry, inner_part};
 use std::alloc::{AllocError, Global};
 use vo_spec::{KeyPart, List, PartEntry, RowPart};
 
@@ -56,19 +55,4 @@ pub fn open_node<'b>(alloc: Global, subtree: &'b Subtree) -> Result<PartTree<'b>
             inner_part(alloc, separators, Children::from_vec(children))
         },
     }
-}
-
-/// The inner node of these children.
-pub fn inner_part<'b>(
-    alloc: Global,
-    separators: &'b [TreeKey],
-    children: Children<'b>,
-) -> Result<PartTree<'b>, AllocError>
-    ensures { IfOk result (λ part. part_of part ≡ inner separators.now children.entry) }
-{
-    let separators = lend_keys(alloc, separators)?;
-    Ok(PartTree::Inner {
-        separators,
-        children,
-    })
 }
