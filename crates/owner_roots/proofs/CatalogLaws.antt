@@ -1,9 +1,8 @@
 -- Catalogs within their limits: what stays so where a table is made, dropped or changed.
-use Rattle.std.proofs.Common.{◌≡◌, ℕ, zero, suc, ◌+◌, ◌<◌, ◌≤◌, true, List, [], ◌∷◌, ◌++◌, Some, map, length, refl, sym, ap, ◌∙◌, subst, arith, remove}
-use Rattle.std.specs.Prelude.{slice_get, slice_set, insert, ◌&&◌, IsTrue}
+use Rattle.std.proofs.Common.{◌≡◌, ℕ, zero, suc, ◌≤◌, true, List, [], ◌∷◌, Some, length, refl, sym, ap, ◌∙◌, subst, arith, remove}
+use Rattle.std.specs.Prelude.{slice_get, slice_set, insert, IsTrue}
 use Rattle.std.specs.List.{AllByRecursion}
 use Rattle.std.proofs.lemmas.Bool.{and_parts, and_from}
-use Rattle.std.proofs.lemmas.List.{length-map}
 use Rattle.vo_spec.specs.declared.records.CatalogTable.{CatalogTable}
 use Rattle.vo_spec.specs.declared.records.Catalog.{Catalog}
 use Rattle.vo_spec.specs.Values.{key_lt}

@@ -15,7 +15,7 @@ use Rattle.vo_spec.specs.Fits.{FitsTree}
 use Rattle.owner_roots.specs.declared.owner_fault.OwnerFault.{OwnerFault}
 use Rattle.owner_roots.specs.declared.owner_fault.OwnerFault.TheVariants as fault
 use Rattle.table_list.specs.TableHeaders.{command_name}
-use Rattle.owner_roots.specs.Next.{table_header, place_of, catalog_fault, rows_changed, table_by_command, tables_with, tables_after, tables_changed, tables_from, trees_taken}
+use Rattle.owner_roots.specs.Next.{table_header, place_of, rows_changed, table_by_command, tables_with, tables_after, tables_changed, tables_from, trees_taken}
 use Rattle.mb_tree.specs.declared.parts.PartTree.{PartTree}
 use Rattle.mb_tree.specs.View.{part_of}
 use Rattle.owner_roots.specs.Seen.{table_with}

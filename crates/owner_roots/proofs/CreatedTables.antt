@@ -1,7 +1,6 @@
 -- A table that is made, by the laws of plain tables: those of the same names, without rows.
 use Rattle.std.proofs.Common.{◌≡◌, ℕ, suc, ◌+◌, ◌≤◌, Bool, true, false, cond, not, List, [], ◌∷◌, Some, None, map, length, refl, sym, ap, ◌∙◌, subst, arith}
-use Rattle.std.specs.Prelude.{bytes_eq, insert, is_some, nat_le, ◌^◌, ◌<◌}
-use Rattle.std.specs.List.{AllByRecursion}
+use Rattle.std.specs.Prelude.{bytes_eq, insert, is_some, nat_le}
 use Rattle.std.proofs.lemmas.List.{length-map}
 use Rattle.vo_spec.specs.declared.tables.Column.{Column}
 use Rattle.vo_spec.specs.declared.tables.Table.{Table}
@@ -13,10 +12,9 @@ use Rattle.vo_spec.specs.Firsts.{first_of}
 use Rattle.vo_spec.specs.Values.{key_lt}
 use Rattle.vo_spec.specs.Batches.{FitsCommand}
 use Rattle.vo_spec.specs.Tables.{table_header_of, table_header_named, refusal, put_table, max_tables, column_number, is_bad_schema}
-use Rattle.vo_spec.specs.Records.{FitsCatalogTable, FitsSchema}
+use Rattle.vo_spec.specs.Records.{FitsCatalogTable}
 use Rattle.vo_spec.specs.Representation.{AreRising}
 use Rattle.vo_spec.specs.Parts.{leaf}
-use Rattle.vo_spec.specs.Trees.{digest}
 use Rattle.vo_laws.proofs.CommandLaws.{created_fit}
 use Rattle.vo_laws.specs.FittingTables.{FitTables, FitsTable}
 use Rattle.vo_laws.specs.FittingTables.{names_of as plain_names}
@@ -24,7 +22,7 @@ use Rattle.vo_laws.proofs.ListLaws.{each_weaker, each_map}
 use Rattle.owner_roots.specs.Next.{table_header, place_for, new_table}
 use Rattle.owner_roots.specs.Working.{FitCatalog, names_of}
 use Rattle.owner_roots.proofs.CatalogLaws.{each_inserted}
-use Rattle.owner_roots.proofs.ChangeLaws.{digest_length}
+use Rattle.owner_roots.proofs.DigestLengths.{digest_length}
 
 abbrev bare : CatalogTable → Table
 bare t = record { name = t.name; schema = t.schema; rows = [] }

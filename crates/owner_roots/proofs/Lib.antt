@@ -1,5 +1,5 @@
 mod CatalogLaws
-mod ChangeLaws
+mod DigestLengths
 mod CommandSteps
 mod CreatedTables
 mod NextLaws

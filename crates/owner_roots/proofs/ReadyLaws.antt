@@ -1,7 +1,6 @@
 -- A command on rows that the catalog doesn't refuse can be followed on its table's tree.
-use Rattle.std.proofs.Common.{◌≡◌, ℕ, zero, suc, ◌+◌, ◌-◌, ◌^◌, ◌<◌, ◌≤◌, Bool, true, false, cond, not, List, [], ◌∷◌, Some, None, map, length, refl, sym, ap, ◌∙◌, subst, arith}
-use Rattle.std.specs.Prelude.{bytes_eq, slice_get, IsSome, IfSome}
-use Rattle.std.specs.List.{AllByRecursion}
+use Rattle.std.proofs.Common.{◌≡◌, ℕ, zero, suc, ◌+◌, ◌-◌, ◌^◌, ◌<◌, Bool, true, false, cond, not, List, [], ◌∷◌, Some, None, map, length, refl, sym, ap, ◌∙◌, arith}
+use Rattle.std.specs.Prelude.{bytes_eq, slice_get}
 use Rattle.vo_spec.specs.declared.values.Row.{Row}
 use Rattle.vo_spec.specs.declared.values.Value.{Value}
 use Rattle.vo_spec.specs.declared.tables.Table.{Table}
@@ -63,9 +62,9 @@ insert_ready name values tables t within fits e found =
 pub ready : (c : Command) (tables : List CatalogTable) (t : CatalogTable) → FitCatalog tables → FitsCommand c
     → refusal c (map table_header tables) ≡ None → slice_get tables (place_of (command_name c) tables) ≡ Some t → IsReady c t
 unfolding FitsCommand
-ready (Create name columns key) tables t within fits e found = tt
-ready (Drop name) tables t within fits e found = tt
+ready (Create name columns key) tables t within fits e found = (tt, tt)
+ready (Drop name) tables t within fits e found = (tt, tt)
 ready (Insert name values) tables t within fits e found = insert_ready name values tables t within fits e found
 ready (Update name sets column value) tables t within fits e found =
-    (fits.1.2, (each_at FitsCatalogTable tables (place_of name tables) t found within.each).schema.columns.1)
-ready (Delete name column value) tables t within fits e found = tt
+    ((fits.1.2, (each_at FitsCatalogTable tables (place_of name tables) t found within.each).schema.columns.1), tt)
+ready (Delete name column value) tables t within fits e found = (tt, tt)

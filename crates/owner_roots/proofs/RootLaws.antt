@@ -1,5 +1,5 @@
 -- A table's root by the first of the trees.
-use Rattle.std.proofs.Common.{◌≡◌, ℕ, List, [], ◌∷◌, Option, Some, None, Result, Ok, Err, map, refl, sym, ap, ◌∙◌, subst}
+use Rattle.std.proofs.Common.{◌≡◌, ℕ, List, [], ◌∷◌, Some, None, Ok, Err, map, refl, sym, ap, ◌∙◌, subst}
 use Rattle.std.specs.Prelude.{slice_get}
 use Rattle.std.specs.Result.{result_map_both}
 use Rattle.std.specs.List.{AllByRecursion}
@@ -15,7 +15,7 @@ use Rattle.mb_update.specs.declared.ops.Op.{Op}
 use Rattle.owner_roots.specs.declared.owner_fault.OwnerFault.{OwnerFault}
 use Rattle.owner_roots.specs.declared.owner_fault.OwnerFault.TheVariants as fault
 use Rattle.owner_roots.specs.declared.root_changes.RootAfter.{RootAfter}
-use Rattle.owner_roots.specs.Changes.{changed_tree, changed_count}
+use Rattle.row_works.specs.Operations.{changed_tree, changed_count}
 use Rattle.owner_roots.specs.Next.{proof_fault, with_root, table_by_change, table_after}
 use Rattle.owner_roots.specs.Seen.{table_with}
 use Rattle.owner_roots.specs.Working.{Gives}

@@ -1,6 +1,6 @@
 -- Trees of the form of a table's: each key of a leaf is one of the schema's, and each row that
 -- stands as cells has one for each column but the key.
-use Rattle.std.specs.Prelude.{ℕ, ◌-◌, Bool, true, ◌&&◌, ◌==◌, List, length}
+use Rattle.std.specs.Prelude.{◌-◌, Bool, true, ◌&&◌, ◌==◌, length}
 use Rattle.std.specs.List.{list_all}
 use Rattle.vo_spec.specs.declared.tables.Schema.{Schema}
 use Rattle.vo_spec.specs.declared.cells.RowPart.{RowPart}

@@ -1,4 +1,3 @@
-pub mod Changes
 pub mod Forms
 pub mod Next
 pub mod Working

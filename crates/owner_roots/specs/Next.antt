@@ -1,13 +1,12 @@
 -- The next roots of an owner that holds roots alone: what a batch and the proofs of its commands
 -- make of them, or the first of the tests that refuses it.
-use Rattle.std.specs.Prelude.{◌≡◌, ◌⊎◌, ℕ, ◌+◌, Bool, not, List, [], ◌∷◌, map, length, drop, remove, insert, slice_get, slice_set, bytes_eq, is_some, Option, Some, None, Result, Ok, Err}
+use Rattle.std.specs.Prelude.{◌≡◌, ◌⊎◌, ℕ, ◌+◌, not, List, [], ◌∷◌, map, drop, remove, insert, slice_get, slice_set, bytes_eq, Option, Some, None, Result, Ok, Err}
 use Rattle.std.specs.Option.{option_map_or}
 use Rattle.std.specs.Result.{result_map_both}
 use Rattle.std.specs.List.{position_or_len}
 use Rattle.vo_spec.specs.declared.tables.Column.{Column}
 use Rattle.vo_spec.specs.declared.tables.Command.{Command}
-use Rattle.vo_spec.specs.declared.tables.Command.TheVariants.{Create, Drop, Insert, Update, Delete}
-use Rattle.vo_spec.specs.declared.trees.UpdateFault.{UpdateFault}
+use Rattle.vo_spec.specs.declared.tables.Command.TheVariants.{Create, Drop}
 use Rattle.vo_spec.specs.declared.records.CatalogTable.{CatalogTable}
 use Rattle.vo_spec.specs.Firsts.{first_of, unless, and_then}
 use Rattle.vo_spec.specs.Values.{key_lt}
@@ -22,7 +21,7 @@ use Rattle.update_proof.specs.Proving.{update_is_missing, update_has_surplus}
 use Rattle.owner_roots.specs.declared.owner_fault.OwnerFault.{OwnerFault}
 use Rattle.owner_roots.specs.declared.owner_fault.OwnerFault.TheVariants as fault
 use Rattle.owner_roots.specs.declared.roots.Roots.{Roots}
-use Rattle.owner_roots.specs.Changes.{operation, changed_tree, changed_count}
+use Rattle.row_works.specs.Operations.{operation, changed_tree, changed_count}
 use Rattle.owner_roots.specs.Forms.{has_form}
 
 -- Tables by their names.

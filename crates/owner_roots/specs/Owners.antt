@@ -1,6 +1,6 @@
 -- Which journals an owner has written: each entry gives the next roots by the proofs of its batch,
 -- and has their record, signed by the leaf of its version. Nothing but roots is needed to tell.
-use Rattle.std.specs.Prelude.{◌≡◌, ℕ, ◌<◌, List, [], ◌∷◌, Result, Ok}
+use Rattle.std.specs.Prelude.{◌≡◌, ℕ, List, [], ◌∷◌, Result, Ok}
 use Rattle.vo_spec.specs.declared.records.Record.{Record}
 use Rattle.vo_spec.specs.declared.records.Entry.{Entry}
 use Rattle.vo_spec.specs.declared.checks.Verdict.{Verdict}

@@ -1,18 +1,13 @@
 -- Tables within the limits of a catalog, and what calls on them give.
-use Rattle.std.specs.Prelude.{◌≡◌, ℕ, ◌+◌, ◌<◌, ◌≤◌, ◌^◌, List, map, length, Result, Ok, Err}
+use Rattle.std.specs.Prelude.{◌≡◌, ℕ, ◌≤◌, List, map, length, Result, Ok, Err, IfSome}
 use Rattle.std.specs.List.{AllByRecursion}
-use Rattle.vo_spec.specs.declared.tables.Schema.{Schema}
 use Rattle.vo_spec.specs.declared.tables.Command.{Command}
-use Rattle.vo_spec.specs.declared.tables.Command.TheVariants.{Create, Drop, Insert, Update, Delete}
 use Rattle.vo_spec.specs.declared.records.CatalogTable.{CatalogTable}
-use Rattle.vo_spec.specs.Batches.{FitsSet}
-use Rattle.vo_spec.specs.Fits.{FitsRow}
-use Rattle.vo_spec.specs.Tables.{max_tables, row_of}
+use Rattle.vo_spec.specs.Tables.{max_tables}
 use Rattle.vo_spec.specs.Records.{FitsCatalogTable}
 use Rattle.vo_spec.specs.Representation.{AreRising}
-use Rattle.mb_update.specs.declared.ops.Op.{Op}
-use Rattle.mb_update.specs.declared.ops.Op.TheVariants.{Insert as PutRow, Replace, Remove}
-use Rattle.mb_update.specs.Sets.{FitsSets}
+use Rattle.row_works.specs.Operations.{operation}
+use Rattle.row_works.specs.Limits.{FitsWork, HasRoom}
 use Rattle.owner_roots.specs.declared.owner_fault.OwnerFault.{OwnerFault}
 use Rattle.owner_roots.specs.declared.owner_fault.OwnerFault.TheVariants.{Command as Refused, ProofForm, ProofRoot, ProofMissing, ProofSurplus, KeySpent, Memory}
 
@@ -36,18 +31,6 @@ Gives view (Err (ProofMissing index)) answer = answer ≡ Err (ProofMissing inde
 Gives view (Err (ProofSurplus index)) answer = answer ≡ Err (ProofSurplus index)
 Gives view (Err KeySpent) answer = answer ≡ Err KeySpent
 
--- the row of an INSERT fits and has room, the values of an UPDATE fit, and its columns have numbers
--- of a byte
+-- the table's tree can take the work of the command, by how many rows it has
 abbrev pub IsReady : Command → CatalogTable → Type 0
-IsReady (Insert name values) t = FitsRow (row_of t.schema values) × (t.rows + 1 < 2 ^ 32)
-IsReady (Update name sets column value) t =
-    AllByRecursion FitsSet sets × (length t.schema.columns ≤ 32)
-IsReady (Delete name column value) t = Unit {0}
-IsReady (Create name columns key) t = Unit {0}
-IsReady (Drop name) t = Unit {0}
-
--- what a change puts into a tree fits
-abbrev pub FitsOp : Op → Type 0
-FitsOp (PutRow row) = FitsRow row
-FitsOp (Replace key sets) = FitsSets sets
-FitsOp (Remove key) = Unit {0}
+IsReady c t = FitsWork t.schema c × IfSome (operation t.schema c) (λ op. HasRoom op t.rows)

@@ -2,7 +2,6 @@
 //! its commands.
 #![tactic(auto)]
 
-mod changes;
 mod commands;
 mod copies;
 mod forms;

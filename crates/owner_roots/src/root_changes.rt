@@ -3,16 +3,16 @@ ghost use Rattle.std.specs.Prelude.{◌≡◌, ◌+◌, ◌<◌, ◌^◌, length
 ghost use Rattle.std.specs.List.{AllByRecursion};
 ghost use Rattle.vo_spec.specs.Fits.{FitsPart, FitsTree};
 ghost use Rattle.mb_tree.specs.View.{part_of};
-ghost use Rattle.owner_roots.specs.Changes.{changed_count};
+ghost use Rattle.row_works.specs.Operations.{changed_count};
 ghost use Rattle.owner_roots.specs.Next.{proof_fault, table_after, table_by_change};
 ghost use Rattle.owner_roots.specs.Seen.{table_with};
-ghost use Rattle.owner_roots.specs.Working.{FitsOp, Gives};
+ghost use Rattle.row_works.specs.Limits.{FitsOp};
+ghost use Rattle.owner_roots.specs.Working.{Gives};
 
-use crate::changes::{change_count, change_tree};
 use crate::forms::has_form;
 use crate::owner_fault::OwnerFault;
 use mb_tree::PartTree;
-use mb_update::{Op, UpdateFault};
+use row_works::{Op, UpdateFault, apply_to_part, count_after};
 use std::alloc::Global;
 use update_proof::is_update_proof;
 use vo_spec::{CatalogTable, CommandFault, Digest};
@@ -65,9 +65,9 @@ fn root_by_change(
     ensures rows { IfOk result (λ after. after.rows ≡ changed_count op.now table.now.rows) }
     ensures root { IfOk result (λ after. length after.root ≡ 32) }
 {
-    match change_tree(alloc, tree, op) {
+    match apply_to_part(alloc, tree, op) {
         Ok(changed) => Ok(RootAfter {
-            rows: change_count(op, table.rows),
+            rows: count_after(op, table.rows),
             root: changed.node_digest(),
         }),
         Err(UpdateFault::DuplicateKey) => Err(OwnerFault::Command {

@@ -10,11 +10,11 @@ ghost use Rattle.owner_roots.specs.Next.{table_header, rows_changed, table_by_co
 ghost use Rattle.owner_roots.specs.Seen.{table_with};
 ghost use Rattle.owner_roots.specs.Working.{FitCatalog, Gives, IsReady};
 
-use crate::changes::operation;
 use crate::owner_fault::OwnerFault;
 use crate::places::place_of;
 use crate::root_changes::{RootAfter, root_after};
 use mb_tree::PartTree;
+use row_works::operation;
 use std::alloc::Global;
 use table_list::command_name;
 use vo_spec::{CatalogTable, Command};
@@ -34,7 +34,7 @@ fn root_by_command(
         (table_by_command index command.now (map part_of trees.now) table.now) }
     ensures fits { IfOk result (λ after. FitsCatalogTable (table_with table.now after)) }
 {
-    match operation(alloc, table, command)? {
+    match operation(alloc, &table.schema, command)? {
         None => Ok(RootAfter {
             rows: table.rows,
             root: table.root,

@@ -15,21 +15,20 @@ use Rattle.vo_spec.specs.declared.tables.CommandFault.{CommandFault}
 use Rattle.vo_spec.specs.declared.records.CatalogTable.{CatalogTable}
 use Rattle.vo_spec.specs.Firsts.{unless, and_then}
 use Rattle.vo_spec.specs.Values.{key_of}
-use Rattle.vo_spec.specs.Tables.{CellChange, TableHeader, Tests, table_header_named, on_table, insert_tests, update_tests, delete_tests, column_number, row_of, cell_changes, refusal}
+use Rattle.vo_spec.specs.Tables.{TableHeader, Tests, table_header_named, on_table, insert_tests, update_tests, delete_tests, column_number, row_of, cell_changes, refusal}
 use Rattle.vo_spec.specs.Parts.{leaf}
 use Rattle.vo_spec.specs.Trees.{RowTree, Prunes}
-use Rattle.vo_spec.specs.Removes.{tree_with_cells}
 use Rattle.vo_spec.specs.Honest.{Stored, RepresentTables, stored_table_header, catalog_of, tree_after, change_tree, changed_trees, work, proof_on, command_proof, table_of}
 use Rattle.vo_laws.specs.FittingTables.{FitsTable, FitTables}
 use Rattle.mb_update.specs.declared.ops.Op.{Op}
 use Rattle.mb_update.specs.declared.ops.Op.TheVariants.{Insert as PutRow, Replace, Remove}
-use Rattle.mb_update.specs.Sets.{change_of}
 use Rattle.update_proof.specs.Proving.{update_proof}
 use Rattle.stored_tables.specs.Plain.{catalog_table}
 use Rattle.stored_tables.specs.Positions.{is_named}
 use Rattle.owner_roots.specs.declared.owner_fault.OwnerFault.{OwnerFault}
 use Rattle.owner_roots.specs.declared.owner_fault.OwnerFault.TheVariants.{Command as Refused}
-use Rattle.owner_roots.specs.Changes.{set_cell, changed_tree}
+use Rattle.row_works.specs.Operations.{set_cell, operation, changed_tree}
+use Rattle.row_works.proofs.OperationLaws.{same_tree}
 use Rattle.owner_roots.specs.Next.{table_after, tables_changed, tables_after, trees_taken}
 use Rattle.root_laws.specs.Following.{IsProofFault, PrunesTable, TakesPart, IsOrRefusesProof}
 use Rattle.root_laws.proofs.TablePlaces.{table_headers_same, change_table, changed_at_place, put_at_place, names_rise, removed_at_place}
@@ -84,10 +83,6 @@ module _ (index : ℕ) (name : List ℕ) (c : Command) (op_of : Schema → Op) (
 
 -- The changes that commands are.
 
-same_changes : (changes : List CellChange) → map change_of (map set_cell changes) ≡ changes
-same_changes [] = refl
-same_changes (c ∷ changes) = ap (λ cs. c ∷ cs) (same_changes changes)
-
 abbrev pub insert_op : List Value → Schema → Op
 insert_op values schema = PutRow (row_of schema values)
 
@@ -97,9 +92,9 @@ update_op sets value schema = Replace (key_of value) (map set_cell (cell_changes
 abbrev pub delete_op : Value → Schema → Op
 delete_op value schema = Remove (key_of value)
 
-update_is : (name : List ℕ) (sets : List SetPart) (column : List ℕ) (value : Value) (s : Stored)
-    → tree_after (Update name sets column value) s ≡ changed_tree (update_op sets value s.schema) s.tree
-update_is name sets column value s = ap (λ changes. tree_with_cells (key_of value) changes s.tree) (sym (same_changes (cell_changes s.schema sets)))
+change_is : (c : Command) (op_of : Schema → Op) → ((schema : Schema) → operation schema c ≡ Some (op_of schema)) → (s : Stored)
+    → tree_after c s ≡ changed_tree (op_of s.schema) s.tree
+change_is c op_of is s = same_tree c s (op_of s.schema) (is s.schema)
 
 -- A command that the catalog doesn't refuse.
 
@@ -113,15 +108,15 @@ changed_followed index (Drop name) trees stored tables zs good parts = inl (ap O
 changed_followed index (Insert name values) trees stored tables zs good parts =
     subst (λ r. IsOrRefusesProof r (tables_by_trees index (change_tree name (Insert name values) stored)))
     (sym (changed_at_place name (λ t. table_after index t (insert_op values t.schema) trees) (map catalog_table stored)))
-    (rows_followed index name (Insert name values) (insert_op values) stored tables (λ s. refl) zs good.each trees parts)
+    (rows_followed index name (Insert name values) (insert_op values) stored tables (change_is (Insert name values) (insert_op values) (λ schema. refl)) zs good.each trees parts)
 changed_followed index (Update name sets column value) trees stored tables zs good parts =
     subst (λ r. IsOrRefusesProof r (tables_by_trees index (change_tree name (Update name sets column value) stored)))
     (sym (changed_at_place name (λ t. table_after index t (update_op sets value t.schema) trees) (map catalog_table stored)))
-    (rows_followed index name (Update name sets column value) (update_op sets value) stored tables (update_is name sets column value) zs good.each trees parts)
+    (rows_followed index name (Update name sets column value) (update_op sets value) stored tables (change_is (Update name sets column value) (update_op sets value) (λ schema. refl)) zs good.each trees parts)
 changed_followed index (Delete name column value) trees stored tables zs good parts =
     subst (λ r. IsOrRefusesProof r (tables_by_trees index (change_tree name (Delete name column value) stored)))
     (sym (changed_at_place name (λ t. table_after index t (delete_op value t.schema) trees) (map catalog_table stored)))
-    (rows_followed index name (Delete name column value) (delete_op value) stored tables (λ s. refl) zs good.each trees parts)
+    (rows_followed index name (Delete name column value) (delete_op value) stored tables (change_is (Delete name column value) (delete_op value) (λ schema. refl)) zs good.each trees parts)
 
 found_proof : (c : Command) (stored : List Stored) (others : List RowTree) (s : Stored) → find (λ (s : Stored). bytes_eq s.name (table_of c)) stored ≡ Some s
     → command_proof c stored ++ others ≡ proof_on c s ++ others
@@ -134,17 +129,17 @@ changed_proved index (Drop name) others stored tables zs good = ap Ok (removed_a
 changed_proved index (Insert name values) others stored tables zs good =
     let trees : List RowTree = command_proof (Insert name values) stored ++ others in
     changed_at_place name (λ t. table_after index t (insert_op values t.schema) trees) (map catalog_table stored)
-    ∙ rows_proved index name (Insert name values) (insert_op values) stored tables (λ s. refl) zs good.each trees others (found_proof (Insert name values) stored others)
+    ∙ rows_proved index name (Insert name values) (insert_op values) stored tables (change_is (Insert name values) (insert_op values) (λ schema. refl)) zs good.each trees others (found_proof (Insert name values) stored others)
 changed_proved index (Update name sets column value) others stored tables zs good =
     let c : Command = Update name sets column value in
     let trees : List RowTree = command_proof c stored ++ others in
     changed_at_place name (λ t. table_after index t (update_op sets value t.schema) trees) (map catalog_table stored)
-    ∙ rows_proved index name c (update_op sets value) stored tables (update_is name sets column value) zs good.each trees others (found_proof c stored others)
+    ∙ rows_proved index name c (update_op sets value) stored tables (change_is (Update name sets column value) (update_op sets value) (λ schema. refl)) zs good.each trees others (found_proof c stored others)
 changed_proved index (Delete name column value) others stored tables zs good =
     let c : Command = Delete name column value in
     let trees : List RowTree = command_proof c stored ++ others in
     changed_at_place name (λ t. table_after index t (delete_op value t.schema) trees) (map catalog_table stored)
-    ∙ rows_proved index name c (delete_op value) stored tables (λ s. refl) zs good.each trees others (found_proof c stored others)
+    ∙ rows_proved index name c (delete_op value) stored tables (change_is (Delete name column value) (delete_op value) (λ schema. refl)) zs good.each trees others (found_proof c stored others)
 
 -- Any command.
 

@@ -37,7 +37,7 @@ use Rattle.update_proof.proofs.OnlyRemoveProofs.{only_remove_proof}
 use Rattle.stored_tables.specs.Plain.{catalog_table}
 use Rattle.owner_roots.specs.declared.owner_fault.OwnerFault.{OwnerFault}
 use Rattle.owner_roots.specs.declared.owner_fault.OwnerFault.TheVariants as fault
-use Rattle.owner_roots.specs.Changes.{changed_tree, changed_count}
+use Rattle.row_works.specs.Operations.{changed_tree, changed_count}
 use Rattle.owner_roots.specs.Forms.{has_form}
 use Rattle.owner_roots.specs.Next.{with_root, proof_fault, table_by_change, table_after}
 use Rattle.root_laws.specs.Following.{IsOrRefusesProof}

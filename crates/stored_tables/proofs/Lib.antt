@@ -2,7 +2,6 @@ pub mod ListLaws
 pub mod PositionLaws
 pub mod StandingLaws
 pub mod ReadyLaws
-pub mod SetLaws
 pub mod ProofLaws
 pub mod LimitLaws
 pub mod WorkLaws

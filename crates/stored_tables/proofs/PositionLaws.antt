@@ -19,7 +19,7 @@ use Rattle.table_list.specs.declared.fault.ApplyFault.TheVariants.{Refused, Memo
 use Rattle.stored_tables.specs.View.{stored_of}
 use Rattle.stored_tables.specs.Positions.{is_named, IsUnlike, IsThere, IsAt}
 use Rattle.stored_tables.specs.Working.{with_new_tree, table_after}
-use Rattle.stored_tables.specs.Ready.{changes_rows}
+use Rattle.row_works.specs.Operations.{changes_rows}
 use Rattle.stored_tables.proofs.ListLaws.{parted_at, one_more}
 
 -- Among tables of other names.

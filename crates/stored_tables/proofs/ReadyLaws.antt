@@ -1,6 +1,6 @@
 -- A command on rows that no table header refuses finds its table, and the table's tree can take the
 -- change.
-use Rattle.std.proofs.Common.{◌≡◌, ℕ, ◌<◌, ◌≤◌, true, List, Some, None, length, map, sym, ap, ◌∙◌, subst, arith}
+use Rattle.std.proofs.Common.{◌≡◌, ℕ, ◌<◌, ◌≤◌, true, List, Some, None, length, map, refl, sym, ap, ◌∙◌, subst, arith}
 use Rattle.std.specs.Option.{option_map_or}
 use Rattle.std.specs.List.{AllByRecursion}
 use Rattle.std.proofs.lemmas.List.{length-map}
@@ -21,7 +21,8 @@ use Rattle.vo_laws.proofs.RepresentationLaws.{stored_table_headers}
 use Rattle.table_list.specs.TableHeaders.{command_name}
 use Rattle.stored_tables.specs.Representation.{IsStanding}
 use Rattle.stored_tables.specs.Positions.{IsUnlike, IsAt}
-use Rattle.stored_tables.specs.Ready.{changes_rows, IsReady}
+use Rattle.row_works.specs.Operations.{changes_rows}
+use Rattle.stored_tables.specs.Ready.{IsReady}
 use Rattle.stored_tables.proofs.PositionLaws.{table_header_nowhere}
 use Rattle.stored_tables.proofs.StandingLaws.{plain_at}
 
@@ -50,7 +51,7 @@ insert_ready name values stored at s standing fits e is =
     let row : FitsRow (row_of plain.table.schema values) = row_fits plain.table values plain.fits.schema fits.1 insertion in
     let same : length (entries s.tree) ≡ length plain.table.rows = ap length plain.stands.stands.rows_are ∙ length-map plain.table.rows whole_entry in
     let few : length plain.table.rows < max_rows = insertion.room in
-    (subst (λ (z : Schema). FitsRow (row_of z values)) (sym plain.stands.schema) row, omega arith)
+    record { rows = refl; fits = subst (λ (z : Schema). FitsRow (row_of z values)) (sym plain.stands.schema) row; room = omega arith }
 
 few_columns : (name : List ℕ) (stored : List Stored) (at : ℕ) (s : Stored) → IsStanding stored → IsAt name stored at s → length s.schema.columns ≤ max_columns
 few_columns name stored at s standing is =
@@ -63,5 +64,6 @@ unfolding FitsCommand
 ready (Create name columns key) stored at s rows standing fits e is = absurd (cc)
 ready (Drop name) stored at s rows standing fits e is = absurd (cc)
 ready (Insert name values) stored at s rows standing fits e is = insert_ready name values stored at s standing fits e is
-ready (Update name sets column value) stored at s rows standing fits e is = (fits.1.2, few_columns name stored at s standing is)
-ready (Delete name column value) stored at s rows standing fits e is = tt
+ready (Update name sets column value) stored at s rows standing fits e is =
+    record { rows = rows; fits = (fits.1.2, few_columns name stored at s standing is); room = tt }
+ready (Delete name column value) stored at s rows standing fits e is = record { rows = rows; fits = tt; room = tt }

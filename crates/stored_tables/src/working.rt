@@ -7,7 +7,7 @@ ghost use Rattle.vo_spec.specs.Honest.{changed_trees, stored_table_header, work}
 ghost use Rattle.table_list.specs.Changes.{Returns};
 ghost use Rattle.stored_tables.specs.View.{stored_in};
 ghost use Rattle.stored_tables.specs.Representation.{IsStanding};
-ghost use Rattle.stored_tables.specs.Ready.{changes_rows};
+ghost use Rattle.row_works.specs.Operations.{changes_rows};
 
 use crate::changing::{new_table, replace_table, with_table, without_table};
 use crate::positions::place_of;

@@ -1,4 +1,4 @@
-use Rattle.std.proofs.Common.{Ok, Err, inl, inr, refl, sym, ap, ◌∙◌, subst}
+use Rattle.std.proofs.Common.{Ok, Err, inr, refl, sym, ap, ◌∙◌, subst}
 use Rattle.owner_roots.specs.Working.{FitCatalog}
 use Rattle.owner_roots.proofs.CatalogLaws.{of_catalog, as_catalog}
 use Rattle.owner_roots.proofs.NextLaws.{next_unread, seen_given, seen_refused}

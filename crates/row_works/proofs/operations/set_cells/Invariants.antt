@@ -1,7 +1,7 @@
 use Rattle.std.proofs.Common.{◌≡◌, map, take}
 use Rattle.vo_spec.specs.Tables.{cell_changes}
-use Rattle.owner_roots.specs.Changes.{set_cell}
-use Rattle.owner_roots.proofs.changes.set_cells.Given as goal
+use Rattle.row_works.specs.Operations.{set_cell}
+use Rattle.row_works.proofs.operations.set_cells.Given as goal
 
 -- the cells so far
 abbrev pub invariant-loop-set : goal.invariant-loop-set

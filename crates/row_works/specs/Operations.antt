@@ -1,5 +1,5 @@
--- What a command on rows changes in the tree of its table.
-use Rattle.std.specs.Prelude.{ℕ, ◌+◌, ◌-◌, List, map, Option, Some, None, Result}
+-- The work that a command on rows does on the tree of its table.
+use Rattle.std.specs.Prelude.{ℕ, ◌+◌, ◌-◌, Bool, true, false, map, Option, Some, None, Result}
 use Rattle.vo_spec.specs.declared.tables.Schema.{Schema}
 use Rattle.vo_spec.specs.declared.tables.Command.{Command}
 use Rattle.vo_spec.specs.declared.tables.Command.TheVariants.{Create, Drop, Insert, Update, Delete}
@@ -15,10 +15,18 @@ use Rattle.mb_update.specs.declared.ops.Op.TheVariants.{Insert as PutRow, Replac
 use Rattle.mb_update.specs.declared.ops.SetCell.{SetCell}
 use Rattle.mb_update.specs.Sets.{change_of}
 
+-- whether a command is one on rows
+abbrev pub changes_rows : Command → Bool
+changes_rows (Create name columns key) = false
+changes_rows (Drop name) = false
+changes_rows (Insert name values) = true
+changes_rows (Update name sets column value) = true
+changes_rows (Delete name column value) = true
+
 abbrev pub set_cell : CellChange → SetCell
 set_cell change = record { column = change.column; value = change.value }
 
--- the change; CREATE and DROP are none
+-- the work of a command; CREATE and DROP have none
 abbrev pub operation : Schema → Command → Option Op
 operation schema (Create name columns key) = None
 operation schema (Drop name) = None
@@ -27,13 +35,13 @@ operation schema (Update name sets column value) =
     Some (Replace (key_of value) (map set_cell (cell_changes schema sets)))
 operation schema (Delete name column value) = Some (Remove (key_of value))
 
--- the tree after a change, or why there is none
+-- the tree after a work, or why there is none
 abbrev pub changed_tree : Op → RowTree → Result RowTree UpdateFault
 changed_tree (PutRow row) = tree_with_entry (whole_entry row)
 changed_tree (Replace key sets) = tree_with_cells key (map change_of sets)
 changed_tree (Remove key) = tree_without_key key
 
--- how many rows a table has after a change that was not refused
+-- how many rows a table has after a work that was not refused
 abbrev pub changed_count : Op → ℕ → ℕ
 changed_count (PutRow row) count = count + 1
 changed_count (Replace key sets) count = count

@@ -1,0 +1,2 @@
+mod SetLaws
+pub mod OperationLaws
