@@ -1,60 +1,34 @@
 //! Whether a tree is of its table's schema.
 ghost use Rattle.std.specs.Prelude.{◌≡◌, remove};
-ghost use Rattle.std.specs.List.{list_all};
-ghost use Rattle.vo_spec.specs.Parts.{entries_in};
-ghost use Rattle.vo_spec.specs.Checks.{cell_fits, cells_fit, row_fits, entry_fits, has_shape};
-ghost use Rattle.mb_tree.specs.View.{part_of, parts_of};
+ghost use Rattle.vo_spec.specs.Checks.{cell_fits, cells_fit, has_shape};
+ghost use Rattle.mb_tree.specs.View.{part_of};
 
 use mb_tree::PartTree;
-use row_bytes::is_key_of;
-use table_list::{key_kind, may_show};
-use vo_spec::{Cell, Column, PartEntry, RowPart, Schema};
+use table_list::may_show;
+use tree_shape::{RowForm, entries_have_form};
+use vo_spec::{Cell, Column, RowPart, Schema};
 
 /// Whether the keys of the tree's leaves are keys of the schema, its rows have the schema's cells,
 /// and those that are shown are of their columns' kinds, NULL in nullable columns alone.
-// Inlined where children are asked: most are stubs.
-#[inline(always)]
-#[cycle(shape)]
 pub(crate) fn has_shape(schema: &Schema, tree: &PartTree<'_>) -> bool
     ensures { result ≡ has_shape schema.now (part_of tree.now) }
 {
-    match tree {
-        PartTree::Stub(_) => true,
-        PartTree::Leaf(entries) => entries_fit(schema, entries.as_slice()),
-        PartTree::Inner { children, .. } => have_shape(schema, children.as_slice()),
-    }
+    entries_have_form::<FittingRows>(schema, tree)
 }
 
-#[cycle(shape)]
-fn have_shape(schema: &Schema, children: &[PartTree<'_>]) -> bool
-    ensures { result ≡ list_all (entry_fits schema.now) (entries_in (parts_of children.now)) }
-{
-    for child in children {
-        if !has_shape(schema, child) {
-            return false;
+/// Rows with the schema's cells, of which those that are shown are of their columns' kinds.
+struct FittingRows;
+
+impl RowForm for FittingRows {
+    ghost use Rattle.vo_spec.specs.Checks.{row_fits};
+
+    ghost row_form = { row_fits };
+
+    fn has_row_form(schema: &Schema, row: &RowPart<'_>) -> bool {
+        match row {
+            RowPart::Digest(_) => true,
+            RowPart::Cells(cells) => row_cells_fit(schema, cells.as_slice()),
         }
-    }
-    true
-}
-
-fn entries_fit(schema: &Schema, entries: &[PartEntry<'_>]) -> bool
-    ensures { result ≡ list_all (entry_fits schema.now) entries.now }
-{
-    entries.iter().all(|entry| entry_fits(schema, entry))
-}
-
-fn entry_fits(schema: &Schema, entry: &PartEntry<'_>) -> bool
-    ensures { result ≡ entry_fits schema.now entry.now }
-{
-    is_key_of(key_kind(schema), entry.key.as_bytes()) && row_fits(schema, &entry.row)
-}
-
-fn row_fits(schema: &Schema, row: &RowPart<'_>) -> bool
-    ensures { result ≡ row_fits schema.now row.now }
-{
-    match row {
-        RowPart::Digest(_) => true,
-        RowPart::Cells(cells) => row_cells_fit(schema, cells.as_slice()),
     }
 }
 

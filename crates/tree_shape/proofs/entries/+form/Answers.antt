@@ -2,9 +2,9 @@ use Rattle.std.proofs.Common.{◌≤◌, arith}
 use Rattle.vo_spec.specs.Parts.{levels, levels_in}
 use Rattle.mb_tree.specs.View.{part_of, parts_of}
 use Rattle.mb_tree.proofs.PartLaws.{child_falls}
-use Rattle.owner_roots.proofs.forms.+form.Goals as goal
+use Rattle.tree_shape.proofs.entries.+form.Goals as goal
 
-pub have_form-has_form-requires : goal.have_form-has_form-requires
-have_form-has_form-requires t c =
+pub children_have_form-entries_have_form-requires : goal.children_have_form-entries_have_form-requires
+children_have_form-entries_have_form-requires g t c κs within =
     let falls : levels (part_of c.child-item.result) ≤ levels_in (parts_of c.args.children.now) = child_falls _ _ _ c.loop-child-test.true c.child-item.is in
-    (omega arith, tt)
+    (omega arith, within)
