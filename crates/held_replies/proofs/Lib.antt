@@ -3,4 +3,3 @@ pub mod LeafLaws
 pub mod ReplyTests
 pub mod AcceptedRecords
 pub mod Unread
-pub mod PairLaws

@@ -1,4 +1,5 @@
 pub mod Accepting
 pub mod Judging
+pub mod Ordering
 pub mod Reading
 pub mod Testing

@@ -2,7 +2,8 @@
 ghost use Rattle.std.specs.Prelude.{◌≡◌, if◌then◌else◌, None, Some, map, not, length, zip};
 ghost use Rattle.vo_spec.specs.Pruning.{has_surplus, is_missing};
 ghost use Rattle.mb_tree.specs.View.{part_of};
-ghost use Rattle.held_replies.specs.Testing.{GivesIfPassed, PassesTests, needs_fault};
+ghost use Rattle.held_replies.specs.Ordering.{fault_if};
+ghost use Rattle.held_replies.specs.Testing.{GivesIfPassed, any_missing, any_surplus};
 
 use mb_tree::PartTree;
 use range_proof::is_canonical;
@@ -22,15 +23,17 @@ fn is_bare(alloc: Global, tree: &PartTree<'_>, needs: &[Need]) -> Result<bool, C
     }
 }
 
-/// Refuses trees that miss something of their needs, and then those that have more. There is a list
-/// of needs for each tree.
-pub(crate) fn test_needs(
+/// Whether trees that miss nothing of their needs have no more than these. There is a list of needs
+/// for each tree.
+pub(crate) fn are_bare(
     alloc: Global,
     trees: &[PartTree<'_>],
     needs: &[List<Need>],
-) -> Result<(), CheckFault>
+) -> Result<bool, CheckFault>
     requires { length needs.now ≡ length trees.now }
-    ensures { PassesTests result (needs_fault (zip needs.now (map part_of trees.now))) }
+    ensures { let needed = zip needs.now (map part_of trees.now) in
+        GivesIfPassed result (fault_if (any_missing needed) CheckFault.Missing)
+        (not (any_surplus needed)) }
 {
     let mut are_bare = true;
     for (place, tree) in trees.iter().enumerate() {
@@ -39,9 +42,5 @@ pub(crate) fn test_needs(
             Err(fault) => return Err(fault),
         }
     }
-    if are_bare {
-        Ok(())
-    } else {
-        Err(CheckFault::Surplus)
-    }
+    Ok(are_bare)
 }

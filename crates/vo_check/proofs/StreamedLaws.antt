@@ -1,19 +1,20 @@
 -- A reply to a query without a join or a limit is judged by its head and by what was found in its
 -- trees.
-use Rattle.std.proofs.Common.{◌≡◌, ℕ, ◌≤◌, arith, ◌==◌, Bool, true, false, ◌&&◌, ◌||◌, if◌then◌else◌, List, [], ◌∷◌, length, map, Option, Some, None, is_some, Result, Ok, refl, sym, ap, subst, ◌∙◌, ◌⊎◌, inr}
-use Rattle.std.specs.List.{AllByRecursion}
-use Rattle.std.specs.Prelude.{zip, bytes_eq, find, option_map, option_to_list, flat_map}
+use Rattle.std.proofs.Common.{◌≡◌, ℕ, ◌≤◌, arith, ◌==◌, Bool, true, false, ◌&&◌, ◌||◌, if◌then◌else◌, List, [], ◌∷◌, length, map, Option, Some, None, is_some, Result, Ok, Err, refl, sym, ap, subst, ◌∙◌, inl, inr}
+use Rattle.std.specs.List.{AllByRecursion, list_all}
+use Rattle.std.specs.Prelude.{zip, bytes_eq, find, option_and_then, option_map, option_to_list, flat_map}
 use Rattle.std.specs.Option.{option_map_or}
 use Rattle.std.specs.Prelude.{IfOk}
 use Rattle.std.specs.declared.alloc.AllocError.{AllocError}
 use Rattle.std.proofs.lemmas.Bool.{eqb-true}
 use Rattle.vo_spec.specs.declared.checks.CheckFault.{CheckFault}
-use Rattle.vo_spec.specs.declared.checks.CheckFault.TheVariants.{WrongTrees, WrongShape, Missing, Surplus, Memory}
+use Rattle.vo_spec.specs.declared.checks.CheckFault.TheVariants.{WrongTrees, WrongShape, Missing, Surplus}
 use Rattle.vo_spec.specs.declared.needs.Need.{Need}
 use Rattle.vo_spec.specs.declared.needs.SeenRow.{SeenRow}
 use Rattle.vo_spec.specs.declared.queries.Outcome.{Outcome}
 use Rattle.vo_spec.specs.declared.queries.Outcome.TheVariants.{Rows, Wrong}
 use Rattle.vo_spec.specs.declared.queries.QueryFault.{QueryFault}
+use Rattle.vo_spec.specs.declared.values.Value.{Value}
 use Rattle.vo_spec.specs.declared.records.Record.{Record}
 use Rattle.vo_spec.specs.declared.tables.Schema.{Schema}
 use Rattle.vo_spec.specs.Batches.{max_columns}
@@ -22,7 +23,7 @@ use Rattle.vo_spec.specs.Records.{table_headers}
 use Rattle.vo_spec.specs.Tables.{TableHeader}
 use Rattle.vo_spec.specs.declared.records.Catalog.{Catalog}
 use Rattle.vo_spec.specs.declared.records.CatalogTable.{CatalogTable}
-use Rattle.vo_spec.specs.Checks.{has_shape, root_fault, seen_outcome, table_named}
+use Rattle.vo_spec.specs.Checks.{has_shape, has_table_shape, root_fault, seen_outcome}
 use Rattle.vo_spec.specs.Firsts.{first_some}
 use Rattle.vo_spec.specs.Fits.{FitsTree}
 use Rattle.vo_spec.specs.Cuts.{limited_need}
@@ -52,10 +53,11 @@ use Rattle.reply_stream.specs.declared.trees_summary.TreesSummary.{TreesSummary}
 use Rattle.reply_stream.specs.ReplyHeads.{ReplyHead}
 use Rattle.reply_stream.specs.ReplyParts.{Parts, head_in, parts_of}
 use Rattle.reply_stream.specs.ReplyTrees.{first_summary, trees_summary}
-use Rattle.held_replies.specs.Testing.{GivesIfPassed, bare_reply, count_fault_of, digest_fault, excess_fault, needs_fault, shapes_fault, trees_fault}
-use Rattle.held_replies.specs.Judging.{bound_fault, head_fault, needed_for, proof_fault, shown_for}
-use Rattle.held_replies.proofs.ReplyTests.{bound_same, wrong_gives, wrong_refused}
-use Rattle.vo_check.specs.Streamed.{HasFound, HasSchema, IsSummedUp, bound_target, findings_fault, or_fault, plan_for, summary_fault, table_fault, table_of, target_for}
+use Rattle.held_replies.specs.Testing.{GivesIfPassed, any_missing, any_surplus, bare_reply, digest_fault, with_tables}
+use Rattle.held_replies.specs.Ordering.{JudgesFound, count_fault_of, fault_if, fault_unless, found_fault}
+use Rattle.held_replies.specs.Judging.{bound_fault, findings_by, head_fault, needed_for, proof_fault, shown_for}
+use Rattle.held_replies.proofs.ReplyTests.{bound_same, wrong_same}
+use Rattle.vo_check.specs.Streamed.{HasFound, HasSchema, IsSummedUp, ShowsSeen, bound_target, findings_of, plan_for, table_of, target_for}
 use Rattle.vo_check.proofs.RisingColumns.{columns_rise}
 
 -- A query without a join has one source, and reads one tree.
@@ -82,43 +84,27 @@ or_false : (b : Bool) → (b || false) ≡ b
 or_false true = refl
 or_false false = refl
 
-first_two : (o next : Option CheckFault) → first_some (o ∷ next ∷ []) ≡ or_fault o next
-first_two None None = refl
-first_two None (Some f) = refl
-first_two (Some f) next = refl
-
 alone : (o : Option CheckFault) → first_some (o ∷ []) ≡ o
 alone None = refl
 alone (Some f) = refl
 
-shaped : (b : Bool) (o : Option CheckFault) → first_some ((if b && true then None else Some WrongShape) ∷ first_some (o ∷ []) ∷ []) ≡ (if b then o else Some WrongShape)
-shaped true None = refl
-shaped true (Some f) = refl
-shaped false o = refl
+-- its shape
+shaped_one : (table : Option CatalogTable) (tree : RowTree) (s : Summary) → ((t : CatalogTable) → table ≡ Some t → has_shape t.schema tree ≡ s.findings.has_shape)
+    → list_all has_table_shape ((table, tree) ∷ []) ≡ option_map_or (λ (t : CatalogTable). s.findings.has_shape) table true
+shaped_one None tree s shape = refl
+shaped_one (Some t) tree s shape = and_true (has_shape t.schema tree) ∙ shape t refl
 
--- against its table
-table_tested : (table : Option CatalogTable) (tree : RowTree) (s : Summary) → ((t : CatalogTable) → table ≡ Some t → has_shape t.schema tree ≡ s.findings.has_shape) → digest tree ≡ s.digest
-    → first_some (shapes_fault ((table, tree) ∷ []) ∷ first_some (map root_fault ((table, tree) ∷ [])) ∷ []) ≡ table_fault table s
-table_tested None tree s shape same = refl
-table_tested (Some t) tree s shape same =
-    shaped (has_shape t.schema tree) (digest_fault t (digest tree))
-    ∙ ap (λ (b : Bool). if b then digest_fault t (digest tree) else Some WrongShape) (shape t refl)
-    ∙ ap (λ (d : List ℕ). if s.findings.has_shape then digest_fault t d else Some WrongShape) same
-
-found_first : (m x : Bool) → first_some ((if m then Some Missing else None) ∷ (if x then Some Surplus else None) ∷ []) ≡ (if m then Some Missing else if x then Some Surplus else None)
-found_first true x = refl
-found_first false true = refl
-found_first false false = refl
-
--- by what is needed
-needs_tested : (need : Need) (tree : RowTree) (f : Findings) → is_missing (need ∷ []) tree ≡ f.is_missing → has_surplus (need ∷ []) tree ≡ f.has_surplus
-    → needs_fault ((need ∷ [], tree) ∷ []) ≡ findings_fault f
-needs_tested need tree f missing surplus =
-    ap (λ (b : Bool). first_some ((if b then Some Missing else None) ∷ excess_fault ((need ∷ [], tree) ∷ []) ∷ [])) (or_false (is_missing (need ∷ []) tree) ∙ missing)
-    ∙ ap (λ (b : Bool). first_some ((if f.is_missing then Some Missing else None) ∷ (if b then Some Surplus else None) ∷ [])) (or_false (has_surplus (need ∷ []) tree) ∙ surplus)
-    ∙ found_first f.is_missing f.has_surplus
+-- its root
+rooted_one : (table : Option CatalogTable) (tree : RowTree) (s : Summary) → digest tree ≡ s.digest
+    → first_some (map root_fault ((table, tree) ∷ [])) ≡ option_and_then (λ (t : CatalogTable). digest_fault t s.digest) table
+rooted_one None tree s same = refl
+rooted_one (Some t) tree s same = alone (digest_fault t (digest tree)) ∙ ap (digest_fault t) same
 
 -- A bound query without a join, and without a limit.
+
+abbrev fault_by : ℕ → ℕ → Bool → Option CheckFault → Bool → Bool → Option CheckFault
+fault_by wanted count shaped rooted missing surplus =
+    found_fault (record { wanted = wanted; count = count; have_shapes = shaped; root_fault = rooted; is_missing = missing; has_surplus = surplus })
 
 no_right_needs : (p : QueryPlan) (lefts : List RowView) → p.query.join ≡ None → needs_of p lefts ≡ []
 no_right_needs p lefts none = ap (λ (j : Option (ColumnPlace × ColumnPlace)). flat_map (λ on. flat_map (needs_by p on) lefts) (option_to_list j)) none
@@ -146,96 +132,81 @@ module _ (h : HeldQuery) (none : h.join ≡ None) (unlimited : h.limit ≡ None)
   unjoined : b.join ≡ None
   unjoined = ap (option_map join_seen) none
 
+  names : tables_used b.bound_sources ≡ source.table ∷ []
+  names = one_used b.bound_sources source (one_source h none)
+
   -- with another number of trees than one
-  pub other_count : (r : Reply) (count : ℕ) (f : CheckFault) → length r.trees ≡ count → Some f ≡ count_fault_of 1 count → bound_fault b r ≡ Some f
-  other_count r count f same e =
-      ap (λ (names : List (List ℕ)). first_some (trees_fault names r ∷ needs_fault (needed_for (plan_of b) r) ∷ [])) (one_used b.bound_sources source (one_source h none))
-      ∙ rw (same, sym e) refl
+  pub other_count : (r : Reply) (f : CheckFault) → count_fault_of 1 (length r.trees) ≡ Some f → bound_fault b r ≡ Some f
+  other_count r f e = ap (λ (ns : List (List ℕ)). found_fault (findings_by ns (plan_of b) r)) names ∙ rw e refl
 
-  module _ (r : Reply) where
-    -- the tests of trees against their tables
-    tests_of : List (List ℕ) → List RowTree → Option CheckFault
-    tests_of names trees =
-        let tables : List (Option CatalogTable) = map (λ name. table_named name r.catalog) names in
-        first_some (count_fault_of (length names) (length trees) ∷ shapes_fault (zip tables trees) ∷ first_some (map root_fault (zip tables trees)) ∷ [])
+  module _ (r : Reply) (tree : RowTree) (s : Summary) (one : r.trees ≡ tree ∷ []) (schema : HasSchema b r.catalog) (sum : IsSummedUp (bound_target b) tree s) where
+    abbrev target : Target
+    target = bound_target b
 
-    tests_are : (names : List (List ℕ)) → trees_fault names r ≡ tests_of names r.trees
-    unfolding tests_of
-    tests_are names = refl
+    abbrev table : Option CatalogTable
+    table = table_of b r.catalog
 
-    module _ (tree : RowTree) (s : Summary) (one : r.trees ≡ tree ∷ []) (schema : HasSchema b r.catalog) (sum : IsSummedUp (bound_target b) tree s) where
-      abbrev target : Target
-      target = bound_target b
+    of_findings : {A : Type 0} (f : Findings → A) → f (findings_in target tree) ≡ f s.findings
+    of_findings f = sym (ap (λ (t : Summary). f t.findings) sum.1)
 
-      of_findings : {A : Type 0} (f : Findings → A) → f (findings_in target tree) ≡ f s.findings
-      of_findings f = sym (ap (λ (t : Summary). f t.findings) sum.1)
+    shape : (t : CatalogTable) → table ≡ Some t → has_shape t.schema tree ≡ s.findings.has_shape
+    shape t e =
+        ap (λ sc. has_shape sc tree) (schema t e)
+        ∙ shape_is (bound_uncut_need b) (schema_at b.bound_sources 0) tree sum.0.nodes
+        ∙ of_findings (λ f. f.has_shape)
 
-      shape : (t : CatalogTable) → table_of b r.catalog ≡ Some t → has_shape t.schema tree ≡ s.findings.has_shape
-      shape t e =
-          ap (λ sc. has_shape sc tree) (schema t e)
-          ∙ shape_is (bound_uncut_need b) (schema_at b.bound_sources 0) tree sum.0.nodes
-          ∙ of_findings (λ f. f.has_shape)
+    paired : with_tables (tables_used b.bound_sources) r.catalog.tables r.trees ≡ (table, tree) ∷ []
+    paired = ap (λ (ns : List (List ℕ)). with_tables ns r.catalog.tables r.trees) names ∙ ap (with_tables (source.table ∷ []) r.catalog.tables) one
 
-      against_table : trees_fault (tables_used b.bound_sources) r ≡ table_fault (table_of b r.catalog) s
-      unfolding tests_of
-      against_table =
-          tests_are (tables_used b.bound_sources)
-          ∙ ap (λ names. tests_of names r.trees) (one_used b.bound_sources source (one_source h none))
-          ∙ ap (tests_of (source.table ∷ [])) one
-          ∙ table_tested (table_of b r.catalog) tree s shape (sym (ap (λ (t : Summary). t.digest) sum.1))
+    shapes : list_all has_table_shape (with_tables (tables_used b.bound_sources) r.catalog.tables r.trees) ≡ option_map_or (λ (t : CatalogTable). s.findings.has_shape) table true
+    shapes = ap (list_all has_table_shape) paired ∙ shaped_one table tree s shape
 
-      by_needs : needs_fault (needed_for (plan_of b) r) ≡ findings_fault s.findings
-      by_needs =
-          ap (λ (ns : List (List Need)). needs_fault (zip ns r.trees)) (needs_alone (plan_of b) source r.trees (one_source h none) unjoined unlimited)
-          ∙ ap (λ (ts : List RowTree). needs_fault (zip (((plan_of b).uncut_need ∷ []) ∷ []) ts)) one
-          ∙ needs_tested (bound_uncut_need b) tree s.findings
-          (missing_is target tree sum.0.nodes ∙ of_findings (λ f. f.is_missing))
-          (surplus_is target tree sum.0.nodes ∙ of_findings (λ f. f.has_surplus))
+    roots : first_some (map root_fault (with_tables (tables_used b.bound_sources) r.catalog.tables r.trees)) ≡ option_and_then (λ (t : CatalogTable). digest_fault t s.digest) table
+    roots = ap (λ (ts : List (Option CatalogTable × RowTree)). first_some (map root_fault ts)) paired ∙ rooted_one table tree s (sym (ap (λ (t : Summary). t.digest) sum.1))
 
-      pub one_tree : bound_fault b r ≡ summary_fault (table_of b r.catalog) s
-      one_tree =
-          ap (λ (o : Option CheckFault). first_some (o ∷ needs_fault (needed_for (plan_of b) r) ∷ [])) against_table
-          ∙ ap (λ (o : Option CheckFault). first_some (table_fault (table_of b r.catalog) s ∷ o ∷ [])) by_needs
-          ∙ first_two (table_fault (table_of b r.catalog) s) (findings_fault s.findings)
+    needed : needed_for (plan_of b) r ≡ (bound_uncut_need b ∷ [], tree) ∷ []
+    needed =
+        ap (λ (ns : List (List Need)). zip ns r.trees) (needs_alone (plan_of b) source r.trees (one_source h none) unjoined unlimited)
+        ∙ ap (λ (ts : List RowTree). zip (((plan_of b).uncut_need ∷ []) ∷ []) ts) one
+
+    missing : any_missing (needed_for (plan_of b) r) ≡ s.findings.is_missing
+    missing = ap any_missing needed ∙ or_false (is_missing (bound_uncut_need b ∷ []) tree) ∙ missing_is target tree sum.0.nodes ∙ of_findings (λ f. f.is_missing)
+
+    surplus : any_surplus (needed_for (plan_of b) r) ≡ s.findings.has_surplus
+    surplus = ap any_surplus needed ∙ or_false (has_surplus (bound_uncut_need b ∷ []) tree) ∙ surplus_is target tree sum.0.nodes ∙ of_findings (λ f. f.has_surplus)
+
+    pub one_tree : bound_fault b r ≡ found_fault (findings_of table (length r.trees) s)
+    one_tree =
+        let p : QueryPlan = plan_of b in
+        let pairs : List (Option CatalogTable × RowTree) = with_tables (tables_used b.bound_sources) r.catalog.tables r.trees in
+        let shaped : Bool = option_map_or (λ (t : CatalogTable). s.findings.has_shape) table true in
+        let rooted : Option CheckFault = option_and_then (λ (t : CatalogTable). digest_fault t s.digest) table in
+        ap (λ (n : ℕ). fault_by n (length r.trees) (list_all has_table_shape pairs) (first_some (map root_fault pairs)) (any_missing (needed_for p r)) (any_surplus (needed_for p r))) (ap (λ (ns : List (List ℕ)). length ns) names)
+        ∙ ap (λ (v : Bool). fault_by 1 (length r.trees) v (first_some (map root_fault pairs)) (any_missing (needed_for p r)) (any_surplus (needed_for p r))) shapes
+        ∙ ap (λ (o : Option CheckFault). fault_by 1 (length r.trees) shaped o (any_missing (needed_for p r)) (any_surplus (needed_for p r))) roots
+        ∙ ap (λ (m : Bool). fault_by 1 (length r.trees) shaped rooted m (any_surplus (needed_for p r))) missing
+        ∙ ap (λ (x : Bool). fault_by 1 (length r.trees) shaped rooted s.findings.is_missing x) surplus
 
 -- Where a summary passes its tests, the rows are those that the scan gives.
 
-none_found : (m x : Bool) → (if m then Some Missing else if x then Some Surplus else None) ≡ None → (m ≡ false) × (x ≡ false)
-none_found true x e = absurd cc
-none_found false true e = absurd cc
-none_found false false e = (refl, refl)
+none_found : (c h o : Option CheckFault) (m x : Bool) → first_some (c ∷ h ∷ o ∷ fault_if m Missing ∷ fault_if x Surplus ∷ []) ≡ None → (m ≡ false) × (x ≡ false)
+none_found (Some f) h o m x e = absurd cc
+none_found None (Some f) o m x e = absurd cc
+none_found None None (Some f) m x e = absurd cc
+none_found None None None true x e = absurd cc
+none_found None None None false true e = absurd cc
+none_found None None None false false e = (refl, refl)
 
-second : (o next : Option CheckFault) → or_fault o next ≡ None → next ≡ None
-second None next e = e
-second (Some f) next e = absurd cc
-
-pub passed_rows : (b : BoundQuery) (table : Option CatalogTable) (tree : RowTree) (s : Summary) → IsSummedUp (bound_target b) tree s → summary_fault table s ≡ None
+passed_rows : (b : BoundQuery) (table : Option CatalogTable) (count : ℕ) (tree : RowTree) (s : Summary) → IsSummedUp (bound_target b) tree s → found_fault (findings_of table count s) ≡ None
     → seen (bound_uncut_need b) tree ≡ Some s.findings.rows
-passed_rows b table tree s (fits, same) e =
-    let none = none_found s.findings.is_missing s.findings.has_surplus (second (table_fault table s) (findings_fault s.findings) e) in
+passed_rows b table count tree s (fits, same) e =
+    let f = findings_of table count s in
+    let none = none_found (count_fault_of f.wanted f.count) (fault_unless f.have_shapes WrongShape) f.root_fault s.findings.is_missing s.findings.has_surplus e in
     let findings : s.findings ≡ findings_in (bound_target b) tree = ap (λ (t : Summary). t.findings) same in
     seen_is (bound_target b) (columns_rise b 0) tree fits.nodes (sym (ap (λ (f : Findings). f.is_missing) findings) ∙ none.0) (sym (ap (λ (f : Findings). f.has_surplus) findings) ∙ none.1)
     ∙ ap (λ (f : Findings). Some f.rows) (sym findings)
 
--- what a plan shows of them is the outcome
-pub shown_by : (b : BoundQuery) (p : QueryPlan) → p ≡ plan_of b → (table : Option CatalogTable) (tree : RowTree) (s : Summary) → IsSummedUp (bound_target b) tree s → summary_fault table s ≡ None
-    → (rows : List SeenRow) → rows ≡ s.findings.rows → (result : Result Outcome CheckFault)
-    → (seen p.uncut_need tree ≡ Some rows → GivesIfPassed result None (Rows (header p.query.bound_sources p.query.items) (run_rows p (tree ∷ []))))
-    → GivesIfPassed result (summary_fault table s) (Rows (header b.bound_sources b.items) (run_rows (plan_of b) (tree ∷ [])))
-shown_by b p is table tree s sum none rows same result given =
-    let found : seen p.uncut_need tree ≡ Some rows =
-    ap (λ (x : QueryPlan). seen x.uncut_need tree) is ∙ passed_rows b table tree s sum none ∙ ap (λ (x : List SeenRow). Some x) (sym same) in
-    subst (λ (o : Option CheckFault). GivesIfPassed result o (Rows (header b.bound_sources b.items) (run_rows (plan_of b) (tree ∷ [])))) (sym none)
-    (subst (λ (x : QueryPlan). GivesIfPassed result None (Rows (header x.query.bound_sources x.query.items) (run_rows x (tree ∷ [])))) is (given found))
-
 -- The trees of a reply, by what was found in them.
-
-counted_one : (count : ℕ) → None ≡ count_fault_of 1 count → count ≡ 1
-counted_one count e = eqb-true count 1 (counted_by (count == 1) e)
-  where
-    counted_by : (b : Bool) → None ≡ (if b then None else Some (WrongTrees 1 count)) → b ≡ true
-    counted_by true e = refl
-    counted_by false e = absurd cc
 
 -- one tree, which has the summary of the first
 one_by : (target : Target) (trees : List RowTree) (s : Summary) → length trees ≡ 1 → Some s ≡ first_summary target trees → AllByRecursion FitsTree trees
@@ -244,23 +215,67 @@ one_by target [] s e found fits = absurd cc
 one_by target (tree ∷ t ∷ trees) s e found fits = absurd (omega (arith, e))
 one_by target (tree ∷ []) s e found fits = (tree, refl, (fits.0, cc))
 
-module _ (h : HeldQuery) (none : h.join ≡ None) (unlimited : h.limit ≡ None) (c : Catalog) (trees : TreesSummary) where
-  pub judged_by_summary : (r : Reply) (s : Summary) (table : Option CatalogTable) → HasSchema (query_seen h) c → HasFound (bound_target (query_seen h)) c trees r
-      → None ≡ count_fault_of 1 trees.count → trees.first ≡ Some s → table ≡ table_of (query_seen h) c → (result : Result Outcome CheckFault)
-      → ((tree : RowTree) → IsSummedUp (bound_target (query_seen h)) tree s
-      → GivesIfPassed result (summary_fault table s) (Rows (header (query_seen h).bound_sources (query_seen h).items) (run_rows (plan_of (query_seen h)) (tree ∷ []))))
-      → GivesIfPassed result (bound_fault (query_seen h) r) (shown_for (plan_of (query_seen h)) r)
-  judged_by_summary r s table schema found counted first named result given =
-      let b : BoundQuery = query_seen h in
-      let target : Target = bound_target b in
-      let titles : List (List ℕ) = header b.bound_sources b.items in
-      let many : length r.trees ≡ 1 = sym (ap (λ (t : TreesSummary). t.count) found.2) ∙ counted_one trees.count counted in
-      let one = one_by target r.trees s many (sym first ∙ ap (λ (t : TreesSummary). t.first) found.2) found.0.trees in
-      let here : HasSchema b r.catalog = subst (HasSchema b) (sym found.1) schema in
-      let tests : bound_fault b r ≡ summary_fault table s =
-      one_tree h none unlimited r one.0 s one.1 here one.2 ∙ ap (λ (k : Catalog). summary_fault (table_of b k) s) found.1 ∙ ap (λ (t : Option CatalogTable). summary_fault t s) (sym named) in
-      subst (λ (o : Option CheckFault). GivesIfPassed result o (shown_for (plan_of b) r)) (sym tests)
-      (subst (λ (ts : List RowTree). GivesIfPassed result (summary_fault table s) (Rows titles (run_rows (plan_of b) ts))) (sym one.1) (given one.0 one.2))
+no_tree_by : (target : Target) (trees : List RowTree) → None ≡ first_summary target trees → length trees ≡ 0
+no_tree_by target [] e = refl
+no_tree_by target (tree ∷ trees) e = absurd cc
+
+-- where the tests find one fault either way
+same_found : (result : Result Outcome CheckFault) (found other : Option CheckFault) (f : CheckFault) (titles : List (List ℕ)) (Shows : List (List Value) → Type 0) (value : Outcome)
+    → found ≡ Some f → other ≡ Some f → JudgesFound result found titles Shows → GivesIfPassed result other value
+same_found (Ok outcome) found other f titles Shows value is also given = let none : Some f ≡ None = sym is ∙ given.0 in absurd cc
+same_found (Err fault) found other f titles Shows value is also (inl memory) = inl memory
+same_found (Err fault) found other f titles Shows value is also (inr e) = inr (also ∙ sym is ∙ e)
+
+-- where a plan shows the rows of the one tree
+shown_one : (result : Result Outcome CheckFault) (found other : Option CheckFault) (titles : List (List ℕ)) (Shows : List (List Value) → Type 0) (rows : List (List Value))
+    → other ≡ found → (found ≡ None → (shown : List (List Value)) → Shows shown → shown ≡ rows) → JudgesFound result found titles Shows → GivesIfPassed result other (Rows titles rows)
+shown_one (Ok outcome) found other titles Shows rows also same (none, shown, is, shows) =
+    (also ∙ none, is ∙ ap (λ (rs : List (List Value)). Rows titles rs) (same none shown shows))
+shown_one (Err fault) found other titles Shows rows also same (inl memory) = inl memory
+shown_one (Err fault) found other titles Shows rows also same (inr e) = inr (also ∙ e)
+
+module _ (h : HeldQuery) (none : h.join ≡ None) (unlimited : h.limit ≡ None) (c : Catalog) (trees : TreesSummary) (r : Reply) (found : HasFound (bound_target (query_seen h)) c trees r) where
+  abbrev bound : BoundQuery
+  bound = query_seen h
+
+  abbrev titles : List (List ℕ)
+  titles = header bound.bound_sources bound.items
+
+  counted : trees.count ≡ length r.trees
+  counted = ap (λ (t : TreesSummary). t.count) found.2
+
+  pub no_tree : trees.first ≡ None → bound_fault bound r ≡ Some (WrongTrees 1 0)
+  no_tree first =
+      let empty : length r.trees ≡ 0 = no_tree_by (bound_target bound) r.trees (sym first ∙ ap (λ (t : TreesSummary). t.first) found.2) in
+      other_count h none unlimited r (WrongTrees 1 0) (ap (count_fault_of 1) empty)
+
+  module _ (schema : HasSchema bound c) (s : Summary) (first : trees.first ≡ Some s) (result : Result Outcome CheckFault)
+      (given : JudgesFound result (found_fault (findings_of (table_of bound c) trees.count s)) titles (ShowsSeen (plan_of bound) s.findings.rows)) where
+    by_count : (is_one : Bool) → (length r.trees == 1) ≡ is_one → GivesIfPassed result (bound_fault bound r) (shown_for (plan_of bound) r)
+    by_count false e =
+        let other : count_fault_of 1 (length r.trees) ≡ Some (WrongTrees 1 (length r.trees)) = ap (λ (b : Bool). if b then None else Some (WrongTrees 1 (length r.trees))) e in
+        let counts : count_fault_of 1 trees.count ≡ Some (WrongTrees 1 (length r.trees)) = ap (count_fault_of 1) counted ∙ other in
+        same_found result (found_fault (findings_of (table_of bound c) trees.count s)) (bound_fault bound r) (WrongTrees 1 (length r.trees)) titles (ShowsSeen (plan_of bound) s.findings.rows) (shown_for (plan_of bound) r)
+        (rw counts refl) (other_count h none unlimited r (WrongTrees 1 (length r.trees)) other) given
+    by_count true e =
+        let one = one_by (bound_target bound) r.trees s (eqb-true (length r.trees) 1 e) (sym first ∙ ap (λ (t : TreesSummary). t.first) found.2) found.0.trees in
+        let here : HasSchema bound r.catalog = subst (HasSchema bound) (sym found.1) schema in
+        let tests : bound_fault bound r ≡ found_fault (findings_of (table_of bound c) trees.count s) =
+        one_tree h none unlimited r one.0 s one.1 here one.2
+        ∙ ap (λ (k : Catalog). found_fault (findings_of (table_of bound k) (length r.trees) s)) found.1
+        ∙ ap (λ (n : ℕ). found_fault (findings_of (table_of bound c) n s)) (sym counted) in
+        shown_one result (found_fault (findings_of (table_of bound c) trees.count s)) (bound_fault bound r) titles (ShowsSeen (plan_of bound) s.findings.rows) (run_rows (plan_of bound) r.trees) tests
+        (λ passed shown shows. shows one.0 (passed_rows bound (table_of bound c) trees.count one.0 s one.2 passed) ∙ ap (run_rows (plan_of bound)) (sym one.1))
+        given
+
+    pub judged_by_summary : GivesIfPassed result (bound_fault bound r) (shown_for (plan_of bound) r)
+    judged_by_summary = by_count (length r.trees == 1) refl
+
+-- what a plan of the query shows
+pub judged_by_plan : (b : BoundQuery) (p : QueryPlan) → p ≡ plan_of b → (result : Result Outcome CheckFault) (found : Option CheckFault) (rows : List SeenRow)
+    → JudgesFound result found (header p.query.bound_sources p.query.items) (ShowsSeen p rows) → JudgesFound result found (header b.bound_sources b.items) (ShowsSeen (plan_of b) rows)
+judged_by_plan b p is result found rows given =
+    subst (λ (x : QueryPlan). JudgesFound result found (header x.query.bound_sources x.query.items) (ShowsSeen x rows)) is given
 
 -- a target that is the same
 pub target_same : (result : Result Target AllocError) (x y : Target) → x ≡ y → IfOk result (λ target. target ≡ x) → IfOk result (λ target. target ≡ y)
@@ -321,22 +336,10 @@ module _ (c : Catalog) (q : Query) where
 
 -- A query that doesn't bind wants no trees.
 
-first_alone : (o : Option CheckFault) → first_some (o ∷ None ∷ None ∷ []) ≡ o
-first_alone None = refl
-first_alone (Some f) = refl
-
-module _ (q : Query) (c : Catalog) (trees : TreesSummary) (r : Reply) (fault : QueryFault) (wrong : binding_fault (table_headers c) q ≡ Some fault) (found : HasFound (target_for q c) c trees r) where
-  wrong_here : binding_fault (table_headers r.catalog) q ≡ Some fault
-  wrong_here = ap (λ (k : Catalog). binding_fault (table_headers k) q) found.1 ∙ wrong
-
-  wrong_tests : trees_fault [] r ≡ count_fault_of 0 trees.count
-  wrong_tests = first_alone (count_fault_of 0 (length r.trees)) ∙ ap (count_fault_of 0) (sym (ap (λ (t : TreesSummary). t.count) found.2))
-
-  pub wrong_count : (f : CheckFault) → Some f ≡ count_fault_of 0 trees.count → (f ≡ Memory) ⊎ (proof_fault q r ≡ Some f)
-  wrong_count f e = wrong_refused q r fault wrong_here f (inr (wrong_tests ∙ sym e))
-
-  pub wrong_passed : None ≡ count_fault_of 0 trees.count → GivesIfPassed (Ok (Wrong fault)) (proof_fault q r) (seen_outcome q r.catalog r.trees)
-  wrong_passed e = wrong_gives q r fault wrong_here (wrong_tests ∙ sym e)
+pub judged_wrong : (q : Query) (c : Catalog) (trees : TreesSummary) (r : Reply) (fault : QueryFault) → binding_fault (table_headers c) q ≡ Some fault → HasFound (target_for q c) c trees r
+    → (result : Result Outcome CheckFault) → GivesIfPassed result (count_fault_of 0 trees.count) (Wrong fault) → GivesIfPassed result (proof_fault q r) (seen_outcome q r.catalog r.trees)
+judged_wrong q c trees r fault wrong found result given =
+    wrong_same q r fault (ap (λ (k : Catalog). binding_fault (table_headers k) q) found.1 ∙ wrong) trees.count (ap (λ (t : TreesSummary). t.count) found.2) result given
 
 -- What comes before the trees.
 

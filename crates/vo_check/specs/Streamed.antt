@@ -1,21 +1,23 @@
 -- What a client says of a reply to a query without a join or a limit, by the reply's head and by
 -- what was found in its trees.
-use Rattle.std.specs.Prelude.{◌≡◌, if◌then◌else◌, Option, Some, None, is_some}
-use Rattle.vo_spec.specs.declared.checks.CheckFault.{CheckFault}
-use Rattle.vo_spec.specs.declared.checks.CheckFault.TheVariants.{WrongShape, Missing, Surplus}
+use Rattle.std.specs.Prelude.{◌≡◌, if◌then◌else◌, ℕ, true, List, [], ◌∷◌, Option, Some, is_some, option_and_then}
+use Rattle.std.specs.Option.{option_map_or}
+use Rattle.vo_spec.specs.declared.needs.SeenRow.{SeenRow}
 use Rattle.vo_spec.specs.declared.records.Catalog.{Catalog}
 use Rattle.vo_spec.specs.declared.records.CatalogTable.{CatalogTable}
+use Rattle.vo_spec.specs.declared.values.Value.{Value}
 use Rattle.vo_spec.specs.Conditions.{Query}
 use Rattle.vo_spec.specs.Fits.{FitsTree}
 use Rattle.vo_spec.specs.Needs.{uncut_need}
 use Rattle.vo_spec.specs.Records.{table_headers}
 use Rattle.vo_spec.specs.Replies.{Reply, FitsReply}
 use Rattle.vo_spec.specs.Results.{binding_fault, bound_source_at, bound_sources, schema_at}
+use Rattle.vo_spec.specs.Scans.{seen}
 use Rattle.vo_spec.specs.Trees.{RowTree, digest}
 use Rattle.vo_spec.specs.Checks.{table_named}
 use Rattle.query_plan.specs.BoundQueries.{BoundQuery}
-use Rattle.query_plan.specs.Plans.{bound_uncut_need}
-use Rattle.tree_stream.specs.declared.findings.Findings.{Findings}
+use Rattle.query_plan.specs.Plans.{QueryPlan, bound_uncut_need}
+use Rattle.plan_run.specs.Running.{run_rows}
 use Rattle.tree_stream.specs.declared.findings.Summary.{Summary}
 use Rattle.tree_stream.specs.declared.target.Target.{Target}
 use Rattle.tree_stream.specs.Findings.{findings_in, no_target, target_of}
@@ -23,6 +25,7 @@ use Rattle.tree_stream.specs.Remaining.{summary}
 use Rattle.reply_stream.specs.declared.trees_summary.TreesSummary.{TreesSummary}
 use Rattle.reply_stream.specs.ReplyHeads.{ReplyHead}
 use Rattle.reply_stream.specs.ReplyTrees.{trees_summary}
+use Rattle.held_replies.specs.Ordering.{TreeFindings}
 use Rattle.held_replies.specs.Testing.{digest_fault}
 
 -- What the first tree is read for: the rows that the query needs of it, or none where the query is
@@ -40,24 +43,22 @@ target_for q c =
 abbrev pub plan_for : Query → ReplyHead → Target
 plan_for q head = target_for q head.catalog
 
--- the first of two tests that refuses
-abbrev pub or_fault : Option CheckFault → Option CheckFault → Option CheckFault
-or_fault None next = next
-or_fault (Some fault) next = Some fault
+-- what the tests find of the first of so many trees by its summary, with its table, if there is
+-- one
+abbrev pub findings_of : Option CatalogTable → ℕ → Summary → TreeFindings
+findings_of table count s = record {
+  wanted = 1;
+  count = count;
+  have_shapes = option_map_or (λ (t : CatalogTable). s.findings.has_shape) table true;
+  root_fault = option_and_then (λ (t : CatalogTable). digest_fault t s.digest) table;
+  is_missing = s.findings.is_missing;
+  has_surplus = s.findings.has_surplus;
+}
 
--- the tests of a tree by its summary: against its table, if there is one, and by what is needed
-
-abbrev pub table_fault : Option CatalogTable → Summary → Option CheckFault
-table_fault None s = None
-table_fault (Some table) s =
-    if s.findings.has_shape then digest_fault table s.digest else Some WrongShape
-
-abbrev pub findings_fault : Findings → Option CheckFault
-findings_fault f =
-    if f.is_missing then Some Missing else if f.has_surplus then Some Surplus else None
-
-abbrev pub summary_fault : Option CatalogTable → Summary → Option CheckFault
-summary_fault table s = or_fault (table_fault table s) (findings_fault s.findings)
+-- these are the rows that a plan shows of a tree of which it needs those that were seen
+abbrev pub ShowsSeen : QueryPlan → List SeenRow → List (List Value) → Type 0
+ShowsSeen p seen_rows rows = (tree : RowTree) → seen p.uncut_need tree ≡ Some seen_rows
+    → rows ≡ run_rows p (tree ∷ [])
 
 -- the table of a bound query's one source
 abbrev pub table_of : BoundQuery → Catalog → Option CatalogTable

@@ -9,6 +9,7 @@ mod holding;
 mod progress;
 mod streamed;
 mod streaming;
+mod summed_tree;
 mod targets;
 
 pub use checking::Checking;

@@ -1,8 +1,13 @@
 use Rattle.std.proofs.Common.{◌≡◌, map, drop}
 use Rattle.std.specs.List.{list_all}
 use Rattle.vo_spec.specs.Checks.{has_table_shape}
-use Rattle.held_replies.specs.Testing.{tree_seen}
+use Rattle.mb_tree.specs.View.{part_of}
+use Rattle.query_plan.specs.UsedTables.{lent_name}
+use Rattle.held_replies.specs.Testing.{with_tables}
 use Rattle.held_replies.proofs.tree_faults.have_table_shapes.Given as goal
 
-abbrev pub invariant-loop-tree : goal.invariant-loop-tree
-invariant-loop-tree l = list_all has_table_shape (map tree_seen (drop l.tree-index l.trees)) ≡ list_all has_table_shape (map tree_seen l.trees)
+-- all have their shapes where those to come do
+abbrev pub invariant-loop-place : goal.invariant-loop-place
+invariant-loop-place l =
+    list_all has_table_shape (with_tables (map lent_name (drop l.place l.names)) l.tables (map part_of (drop l.place l.trees)))
+    ≡ list_all has_table_shape (with_tables (map lent_name l.names) l.tables (map part_of l.trees))

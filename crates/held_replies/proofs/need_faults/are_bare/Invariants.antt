@@ -2,7 +2,7 @@ use Rattle.std.proofs.Common.{◌≡◌, ◌&&◌, map, drop, zip, not}
 use Rattle.std.specs.List.{list_any}
 use Rattle.vo_spec.specs.Pruning.{is_missing, has_surplus}
 use Rattle.mb_tree.specs.View.{part_of}
-use Rattle.held_replies.proofs.need_faults.test_needs.Given as goal
+use Rattle.held_replies.proofs.need_faults.are_bare.Given as goal
 
 -- no tree so far misses anything, and what is told of them goes for all with those to come
 abbrev pub invariant-loop-place : goal.invariant-loop-place

@@ -1,6 +1,6 @@
 use Rattle.std.proofs.Common.{◌≡◌, drop}
 use Rattle.vo_spec.specs.Checks.{table_named}
-use Rattle.held_replies.proofs.pairing.table_named.Given as goal
+use Rattle.held_replies.proofs.named_table.table_named.Given as goal
 
 -- no table so far has the name
 abbrev pub invariant-loop-table : goal.invariant-loop-table
