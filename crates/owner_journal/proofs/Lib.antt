@@ -4,3 +4,4 @@ pub mod Sizes
 pub mod SlotImages
 pub mod RestLaws
 pub mod OpenLaws
+pub mod TakingLaws

@@ -3,6 +3,7 @@ use Rattle.std.proofs.Common.{◌≡◌, ◌+◌, ◌*◌, ◌^◌, ◌≤◌, L
 use Rattle.std.specs.List.{AllByRecursion, flat_map}
 use Rattle.std.proofs.lemmas.List.{length-append, flat_map_more}
 use Rattle.vo_spec.specs.declared.records.Entry.{Entry}
+use Rattle.vo_spec.specs.Batches.{batch_bytes}
 use Rattle.vo_spec.specs.Bytes.{block, u32_bytes}
 use Rattle.vo_spec.specs.Journals.{FitsEntry, entry_bytes, slot}
 use Rattle.owner_state.proofs.BlockLaws.{u32_length}
@@ -21,6 +22,10 @@ behind_short e fits =
       fits.proofs,
       fits.signature,
     )
+
+pub slot_sum : (e : Entry) → FitsEntry e → length (slot e) ≡ 81 + length (batch_bytes e.batch.commands) + length e.proofs + length e.signature
+slot_sum e fits =
+    omega (arith, length-append (u32_bytes (length (entry_bytes e))) (entry_bytes e), u32_length (length (entry_bytes e)), entry_long e fits)
 
 slot_length : (e : Entry) → length (slot e) ≡ length (behind_gate e)
 slot_length e = omega (arith, length-append (block (entry_bytes e)) (0 ∷ []))

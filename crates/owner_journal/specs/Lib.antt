@@ -1,3 +1,4 @@
 pub mod Slots
 pub mod Resting
 pub mod Entries
+pub mod Taking

@@ -10,6 +10,7 @@ mod journal;
 mod opening;
 mod reading;
 mod slot_writing;
+mod taking;
 
 pub use fault::JournalFault;
 pub use journal::Journal;

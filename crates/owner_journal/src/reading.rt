@@ -6,11 +6,13 @@ ghost use Rattle.outside.specs.FaultRose.{FaultRose};
 ghost use Rattle.vo_spec.specs.Journals.{FitsEntry, IsJournal};
 ghost use Rattle.owner_journal.specs.Resting.{IsFaultOf, IsNoDamage, UnlessDisk};
 ghost use Rattle.owner_journal.specs.Entries.{entries_of, has_failed};
+ghost use Rattle.owner_journal.specs.Taking.{IsMeasured};
 
 use crate::fault::JournalFault;
 use crate::journal::Journal;
+use crate::taking::{slot_counts, take_entries};
 use outside::{Disk, Failed};
-use owner_state::{Ending, into_entries, read_slots};
+use owner_state::{Ending, read_slots};
 use std::alloc::Global;
 
 /// The journal that a disk of so many bytes holds.
@@ -34,7 +36,7 @@ pub(crate) fn read_journal<D: Disk>(
     ensures asks { AsksAtMost 1 (D.asked disk.old) (D.asked disk.new) }
 {
     let bytes = read_whole(alloc, disk, end)?;
-    journal_of(alloc, &bytes)
+    journal_of(alloc, bytes)
 }
 
 fn read_whole<D: Disk>(alloc: Global, disk: &mut D, end: u64) -> Result<Vec<u8>, JournalFault>
@@ -57,19 +59,43 @@ fn read_whole<D: Disk>(alloc: Global, disk: &mut D, end: u64) -> Result<Vec<u8>,
     }
 }
 
-fn journal_of(alloc: Global, bytes: &[u8]) -> Result<Journal, JournalFault>
-    ensures found { IfOk result (λ journal. IsJournal bytes.now (entries_of journal)) }
+/// The journal that the bytes are.
+fn journal_of(alloc: Global, bytes: Vec<u8>) -> Result<Journal, JournalFault>
+    ensures found { IfOk result (λ journal. IsJournal bytes.items (entries_of journal)) }
     ensures works { IfOk result (λ journal. has_failed journal ≡ false) }
     ensures fits { IfOk result (λ journal. AllByRecursion FitsEntry (entries_of journal)) }
+    ensures damaged { IfErr result (IsFaultOf bytes.items) }
+    ensures no_disk { IsErrOf result JournalFault.Disk → ⊥ }
+{
+    let mut bytes = bytes;
+    let measured = measure(alloc, &bytes)?;
+    bytes.truncate(measured.gate as usize);
+    let entries = take_entries(alloc, &mut bytes, measured.counts)?;
+    Ok(Journal {
+        entries,
+        gate: measured.gate,
+        failed: false,
+    })
+}
+
+/// The slots of a journal by their lengths, and the place of the closed gate behind them.
+#[derive(Drop)]
+struct Measured {
+    counts: Vec<usize>,
+    gate: u64,
+}
+
+fn measure(alloc: Global, bytes: &[u8]) -> Result<Measured, JournalFault>
+    ensures found { IfOk result (λ measured. IsMeasured bytes.now measured.counts.items
+        measured.gate) }
     ensures damaged { IfErr result (IsFaultOf bytes.now) }
     ensures no_disk { IsErrOf result JournalFault.Disk → ⊥ }
 {
     let slots = read_slots(alloc, bytes)?;
     match slots.ending {
-        Ending::Closed { at } => Ok(Journal {
-            entries: into_entries(alloc, slots.entries)?,
+        Ending::Closed { at } => Ok(Measured {
+            counts: slot_counts(alloc, slots.entries.as_slice())?,
             gate: at,
-            failed: false,
         }),
         Ending::Damaged { at } => Err(JournalFault::Damaged {
             index: slots.entries.len() as u64,
