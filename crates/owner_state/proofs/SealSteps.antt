@@ -231,41 +231,7 @@ next_is batches n batch there is =
       is = ap (λ (b : Batch). b.commands) is ∙ sym (get_or-map (λ (b : Batch). b.commands) batches n batch);
     }
 
--- What an owner at the roots of the tables makes of an accepted batch by its honest proofs.
-
-honest_leads : (version : ℕ) (stored after : List Stored) (batch : List Command) → IsReady batch stored → work_all batch stored ≡ Ok after
-    → NextOf (honest_roots version stored) batch (proofs_bytes (honest_proofs batch stored)) (Ok (honest_roots (version + 1) after))
-unfolding NextOf
-honest_leads version stored after batch r done =
-    inr (
-      honest_proofs batch stored,
-      record { fits = r.proofs; encoded = refl },
-      sym (batch_proved version batch stored r.fits.each r.standing ∙ accepted_roots version batch stored after done),
-    )
-
-pub honest_step : (secret : Secret) (version : ℕ) (stored after : List Stored) (batch : List Command) (answer : Result Step OwnerFault) → IsReady batch stored
-    → work_all batch stored ≡ Ok after → version + 1 < secret_leaves secret
-    → Steps secret (honest_roots version stored) batch (proofs_bytes (honest_proofs batch stored)) answer → answer ≢ Err owner.Memory
-    → answer ≡ Ok (step_to secret batch (proofs_bytes (honest_proofs batch stored)) (honest_roots (version + 1) after))
-honest_step secret version stored after batch answer r done left (inl none) known = absurd (known none)
-honest_step secret version stored after batch answer r done left (inr is) known =
-    one_step secret (honest_roots version stored) batch (proofs_bytes (honest_proofs batch stored)) answer
-    (Ok (step_to secret batch (proofs_bytes (honest_proofs batch stored)) (honest_roots (version + 1) after))) is
-    (step_made secret (honest_roots version stored) batch (proofs_bytes (honest_proofs batch stored)) (honest_roots (version + 1) after)
-    (step_to secret batch (proofs_bytes (honest_proofs batch stored)) (honest_roots (version + 1) after)) left
-    (honest_leads version stored after batch r done) refl)
-
--- So an owner that stands there goes on to the roots of the tables behind the batch.
-pub sealed_step : (before : Held) (stored after : List Stored) (batch : List Command) (proofs : List ℕ) (answer : Result Step OwnerFault)
-    → before.roots ≡ honest_roots before.roots.version stored → IsReady batch stored → work_all batch stored ≡ Ok after
-    → proofs ≡ proofs_bytes (honest_proofs batch stored) → before.roots.version + 1 < secret_leaves before.key
-    → Steps before.key before.roots batch proofs answer → answer ≢ Err owner.Memory
-    → answer ≡ Ok (step_to before.key batch (proofs_bytes (honest_proofs batch stored)) (honest_roots (before.roots.version + 1) after))
-sealed_step before stored after batch proofs answer at r done is left steps known =
-    honest_step before.key before.roots.version stored after batch answer r done left
-    (subst (λ (roots : Roots). Steps before.key roots batch (proofs_bytes (honest_proofs batch stored)) answer) at
-    (subst (λ (bytes : List ℕ). Steps before.key before.roots batch bytes answer) is steps)) known
-
+-- The entry by the tables behind the batch.
 pub entry_behind : (secret : Secret) (version : ℕ) (stored after : List Stored) (batch : List Command) → work_all batch stored ≡ Ok after
     → signed_entry secret (honest_roots version after) batch (proofs_bytes (honest_proofs batch stored)) ≡ entry_on secret version stored batch
 unfolding entry_on

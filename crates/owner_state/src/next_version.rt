@@ -1,23 +1,28 @@
 //! Sealing one version.
-ghost use Rattle.std.specs.Prelude.{ℕ, ◌+◌};
+ghost use Rattle.std.specs.Prelude.{ℕ, ◌≡◌, ◌+◌, ◌<◌, ◌≤◌, IfOk, OnOk, length};
 ghost use Rattle.std.specs.Result.{result_map_both};
 ghost use Rattle.vo_spec.specs.declared.tables.Command.{Command as Plain};
 ghost use Rattle.vo_spec.specs.Batches.{FitsBatch};
-ghost use Rattle.vo_spec.specs.Secret.{Secret};
+ghost use Rattle.vo_spec.specs.Journals.{FitsEntry, max_proofs};
+ghost use Rattle.vo_spec.specs.Secret.{Secret, secret_leaves};
 ghost use Rattle.vo_spec.specs.Replies.{FitsProofs};
 ghost use Rattle.vo_spec.specs.Honest.{honest_proofs};
 ghost use Rattle.stored_tables.specs.Representation.{IsStanding};
+ghost use Rattle.owner_roots.specs.Owners.{honest_roots};
+ghost use Rattle.owner_state.specs.Stepping.{signed_entry};
 ghost use Rattle.owner_state.specs.SealResults.{IsAt, Seals};
 
 use crate::batch_working::work_batch;
+use crate::copies::copy_batch;
+use crate::entry_signing::sign_entry;
 use crate::journal_writing::put_slot;
 use crate::owner::Owner;
-use crate::owner_faults::is_want_of_memory;
 use crate::sealing::SealFault;
-use std::alloc::Global;
+use owner_roots::Roots;
+use std::alloc::{AllocError, Global};
 use std::mem;
 use stored_tables::{BatchFault, StoredTables};
-use vo_spec::Batch;
+use vo_spec::{Batch, Entry};
 
 /// The slots of versions, the owner that wrote them, and the tables behind the last of them.
 #[derive(Drop)]
@@ -27,7 +32,7 @@ pub(crate) struct Sealed {
     pub slots: Vec<u8>,
 }
 
-/// The versions with another one, of the batch: what the owner makes of it by its honest proofs.
+/// The versions with another one, of the batch: what the owner makes of it on its tables.
 pub(crate) fn seal_next(alloc: Global, before: Sealed, batch: &Batch) -> Result<Sealed, SealFault>
     requires owner { IsAt before.owner.key before.owner.roots.version before }
     requires standing { IsStanding before.tables }
@@ -41,6 +46,36 @@ pub(crate) fn seal_next(alloc: Global, before: Sealed, batch: &Batch) -> Result<
         Ok(()) => Ok(sealed),
         Err(fault) => Err(fault),
     }
+}
+
+/// The entry of a batch with these proofs, the tables being those behind it. The owner stands at
+/// their roots from then on: it has the trees, so it follows no proofs.
+fn sign_tables(
+    alloc: Global,
+    owner: &mut Owner,
+    tables: &StoredTables,
+    batch: &Batch,
+    proofs: Vec<u8>,
+) -> Result<Entry, AllocError>
+    requires leaf { owner.old.roots.version + 1 < secret_leaves owner.old.key }
+    requires few { owner.old.roots.version + 1 < 1048576 }
+    requires batch { FitsBatch batch.now.commands }
+    requires proofs { length proofs.items ≤ max_proofs }
+    ensures entry { IfOk result (λ entry. entry ≡ signed_entry owner.old.key
+        (honest_roots (owner.old.roots.version + 1) tables.now) batch.now.commands proofs.items) }
+    ensures fits { IfOk result (λ entry. FitsEntry entry) }
+    ensures key { owner.new.key ≡ owner.old.key }
+    ensures roots { OnOk result (owner.new.roots
+        ≡ honest_roots (owner.old.roots.version + 1) tables.now) }
+{
+    let roots = Roots {
+        version: owner.roots.version + 1,
+        catalog: tables.catalog(alloc)?,
+    };
+    let batch = copy_batch(alloc, batch)?;
+    let entry = sign_entry(alloc, &owner.key, &roots, batch, proofs)?;
+    owner.roots = roots;
+    Ok(entry)
 }
 
 /// Puts another version behind the others, of the batch. They are lent, so that a fault lets go of
@@ -66,17 +101,7 @@ fn seal_version(alloc: Global, sealed: &mut Sealed, batch: &Batch) -> Result<(),
         }
         Err(BatchFault::Memory) => return Err(SealFault::Memory),
     };
-    match sealed.owner.step(alloc, batch, &proofs) {
-        Ok(step) => {
-            put_slot(alloc, &mut sealed.slots, &step.entry)?;
-            sealed.owner.advance(step);
-            Ok(())
-        }
-        Err(fault) => {
-            if is_want_of_memory(&fault) {
-                return Err(SealFault::Memory);
-            }
-            unreachable!()
-        }
-    }
+    let entry = sign_tables(alloc, &mut sealed.owner, &sealed.tables, batch, proofs)?;
+    put_slot(alloc, &mut sealed.slots, &entry)?;
+    Ok(())
 }

@@ -27,7 +27,7 @@ use Rattle.vo_spec.specs.Conditions.{every, some, negated, test, none, more, com
 use Rattle.sql_text.specs.Tokens.{sql, IsToken, whole}
 use Rattle.sql_text.specs.Rules as rule
 use Rattle.sql_text.specs.Queries as query
-use Rattle.sql_text.specs.Queries.{conditions_of, all_of, any_of}
+use Rattle.sql_text.specs.Queries.{conditions_of}
 use Rattle.sql_text.specs.Printing.{word, name_token, integer_token, literal_token, separate_by, terminate_by, parens, reference_tokens, source_tokens, operator, operand_tokens, null_tokens, test_tokens, is_enclosed, parenthesize, condition_tokens, parts_tokens, items_tokens, join_tokens, where_tokens, limit_tokens, query_tokens}
 use Rattle.sql_text.specs.Spellable.{FreeName, SpellableRef, SpellableSource, SpellableOperand, SpellableTest, HasTwo, SpellableCondition, SpellableParts, deeper, levels_of, levels_in, SpellableItems, SpellableJoin, SpellableLimit, SpellableQuery}
 use Rattle.sql_text.proofs.TokenSounds.{and_true}

@@ -11,7 +11,7 @@ use Rattle.sql_tokens.specs.declared.lexemes.TokenFault.{TokenFault}
 use Rattle.sql_tokens.specs.declared.lexemes.TokenFault.TheVariants as lapse
 use Rattle.sql_tokens.specs.Kinds.{spelling, keyword}
 use Rattle.sql_tokens.specs.Lex.{Token, is_blank, is_letter, is_word_byte, keyword_or_name, integer_value, integer, closing_len, fits_text, string_token, symbol, symbolic, token_at}
-use Rattle.sql_tokens.proofs.Alone.{Stands, stands, named_text, integer_text, symbolic_text, quoted_text, letter_at, digit_at, minus_at, quote_at, symbol_at, word_letter, both_true, one_more, some_more, none_at_end}
+use Rattle.sql_tokens.proofs.Alone.{Stands, stands, named_text, integer_text, symbolic_text, quoted_text, letter_at, digit_at, minus_at, quote_at, symbol_at, both_true, one_more, none_at_end}
 
 behind : (b : ℕ) (x y : List ℕ) → b ∷ x ≡ b ∷ y → x ≡ y
 behind b x y e = ap (drop 1) e

@@ -1,5 +1,5 @@
 -- What std's `parse` says of an integer's token.
-use Rattle.std.proofs.Common.{◌≡◌, ℕ, ◌+◌, ◌<◌, ◌≤◌, ◌^◌, Bool, true, false, cond, eqb, List, [], ◌∷◌, length, take, drop, get_or, suc, Option, Some, None, Result, Ok, Err, ℤ, pos, neg_ℤ, refl, ◌⊎◌, inl, inr, sym, ap, ◌∙◌, subst, arith, w64}
+use Rattle.std.proofs.Common.{◌≡◌, ℕ, ◌+◌, ◌<◌, ◌≤◌, ◌^◌, Bool, true, false, cond, List, [], ◌∷◌, length, take, drop, Option, Some, None, Result, Ok, Err, ℤ, pos, neg_ℤ, refl, ◌⊎◌, inl, inr, sym, ap, ◌∙◌, subst, arith, w64}
 use Rattle.std.specs.Str.{IsAscii}
 use Rattle.std.specs.Prelude.{slice_index, ◌==◌, nat_le, nat_lt, ◌&&◌}
 use Rattle.std.specs.Result.{OkIff, result_ok}

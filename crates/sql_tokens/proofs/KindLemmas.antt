@@ -1,5 +1,5 @@
 -- Each kind by its number, and a token of it.
-use Rattle.std.proofs.Common.{◌≡◌, ℕ, ◌+◌, List, [], ◌∷◌, Ok, pos, refl, ap, sym, ◌∙◌, Bool, true}
+use Rattle.std.proofs.Common.{◌≡◌, ℕ, ◌+◌, List, [], ◌∷◌, Ok, pos, refl, ap, sym, ◌∙◌, true}
 use Rattle.std.specs.Prelude.{codes, ◌==◌, unwrap_or, slice_get}
 use Rattle.std.proofs.lemmas.Bool.{eqb-true, eq-eqb}
 use Rattle.sql_tokens.specs.declared.kinds.TokenKind.{TokenKind}

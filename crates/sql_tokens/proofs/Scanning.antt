@@ -1,10 +1,10 @@
 -- The steps of the loop over a text.
-use Rattle.std.proofs.Common.{◌≡◌, ℕ, zero, suc, ◌+◌, ◌-◌, ◌<◌, ◌≤◌, Bool, true, false, cond, List, [], ◌∷◌, ◌++◌, length, take, drop, get_or, map, Result, Ok, Err, refl, sym, ap, ◌∙◌, subst, arith, append_assoc, add-one, add-zero, sub-one}
+use Rattle.std.proofs.Common.{◌≡◌, ℕ, zero, suc, ◌+◌, ◌-◌, ◌<◌, ◌≤◌, true, false, List, [], ◌∷◌, ◌++◌, length, drop, get_or, map, Result, Ok, Err, refl, sym, ap, ◌∙◌, arith, append_assoc, add-one, add-zero, sub-one}
 use Rattle.std.proofs.Math.Seq.{drop-cons}
 use Rattle.std.proofs.lemmas.List.{append-nil, drop-drop, map-append}
 use Rattle.sql_tokens.specs.declared.lexemes.TokenFault.{TokenFault}
 use Rattle.sql_tokens.specs.declared.lexemes.Lexeme.{Lexeme}
-use Rattle.sql_tokens.specs.Lex.{Token, Placed, is_blank, token_at, then_tokens, at_place, tokens_from, token_of, placed_of}
+use Rattle.sql_tokens.specs.Lex.{Token, Placed, is_blank, token_at, then_tokens, tokens_from, token_of, placed_of}
 
 -- tokens that were read, in front of what is read from there on
 abbrev pub puts : List Placed → Result (List Placed) (TokenFault × ℕ) → Result (List Placed) (TokenFault × ℕ)
