@@ -13,7 +13,7 @@ use crate::state::State;
 use batch_format::read_batch;
 use line_pieces::{NoAnswer, form_of};
 use owner_state::{
-    Ending, EntriesFault, Entry, JournalFault, LoadableJournal, OwnedJournal, SealFault,
+    Ending, EntriesFault, Entry, JournalReadFault, LoadableJournal, OwnedJournal, SealFault,
     entry_bytes, into_entries, journal_bytes, put_slot, read_entries, read_loadable, read_owned,
     read_slots, seal as sealed,
 };
@@ -174,10 +174,10 @@ pub fn owned_journal(alloc: Global, strings: &[Vec<u8>]) -> Result<String, NoAns
     }
 }
 
-fn bad_entry_text(alloc: Global, fault: JournalFault) -> Result<String, NoAnswer> {
+fn bad_entry_text(alloc: Global, fault: JournalReadFault) -> Result<String, NoAnswer> {
     match fault {
-        JournalFault::BadAt { index } => Ok(format!(in alloc; "(BadAt {index})")?),
-        JournalFault::Memory => Err(NoAnswer::Memory),
+        JournalReadFault::BadAt { index } => Ok(format!(in alloc; "(BadAt {index})")?),
+        JournalReadFault::Memory => Err(NoAnswer::Memory),
     }
 }
 

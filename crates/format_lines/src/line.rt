@@ -47,12 +47,12 @@ fn string_of(alloc: Global, kept: &[u8], pieces: &str) -> Result<Vec<u8>, NoAnsw
 
 /// The kept bytes from one place up to another.
 fn kept_piece<'b>(kept: &'b [u8], from: &str, to: &str) -> Result<&'b [u8], NoAnswer> {
-    let from = place_of(from)?;
-    let to = place_of(to)?;
+    let from = parse_offset(from)?;
+    let to = parse_offset(to)?;
     kept.get(from..to).ok_or(NoAnswer::NoSuchLine)
 }
 
-fn place_of(digits: &str) -> Result<usize, NoAnswer> {
+fn parse_offset(digits: &str) -> Result<usize, NoAnswer> {
     match digits.parse::<usize>() {
         Ok(place) => Ok(place),
         Err(_) => Err(NoAnswer::NoSuchLine),

@@ -24,7 +24,7 @@ use Rattle.vo_store.specs.HonestStores.{IsHonestAfter, IsInstalled, IsPending, I
 use Rattle.vo_store.specs.StoreState.{StoreState}
 use Rattle.vo_store.specs.Calls.{install_of}
 use Rattle.owner_session.specs.Endings.{Ending}
-use Rattle.owner_session.specs.Work.{deliveries, delivery, installation, proposal}
+use Rattle.owner_session.specs.SessionWork.{deliveries, delivery, installation, proposal}
 use Rattle.vo_commands.specs.Committing.{entry_forms}
 use Rattle.honest_peers.specs.Owning.{IsStoreAfter}
 use Rattle.honest_peers.proofs.Requests.{installs_entry, proposes_batch}

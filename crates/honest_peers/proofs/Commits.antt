@@ -34,7 +34,7 @@ use Rattle.vo_store.specs.StoreState.{StoreState}
 use Rattle.owner_session.specs.declared.refusals.RefusalCause.TheVariants.{Command as CommandCause}
 use Rattle.owner_session.specs.Endings.{Ending, Done, version_line}
 use Rattle.owner_session.specs.Runs.{entries_of, state_after}
-use Rattle.owner_session.specs.Work.{Judgement, Makes, Refuses, Steps, Appends, Says, batch_commit, commit, commits, ends_with, publication, step, with_first_judgement, with_judgement}
+use Rattle.owner_session.specs.SessionWork.{Judgement, Makes, Refuses, Steps, Appends, Says, batch_commit, commit, commits, ends_with, publication, step, with_first_judgement, with_judgement}
 use Rattle.vo_commands.specs.Committing.{IsJudgement, entry_forms, held_behind}
 use Rattle.vo_commands.specs.Lines.{command_output, spent_key}
 use Rattle.honest_peers.specs.Owning.{ComeTo, EndsPlainly, IsOwnerAfter, IsStoreAfter, refused_with}

@@ -17,7 +17,7 @@ use Rattle.vo_store.specs.StoreState.{StoreState}
 use Rattle.owner_session.specs.Endings.{Ending, Done, StoreRefuses, StandsElsewhere, OwnerRefuses, BadAnswer, CutAnswer, output_of}
 use Rattle.owner_session.specs.Runs.{AreJudgements, Snapshot, entries_of, input_of, snapshot_of, state_after}
 use Rattle.owner_session.specs.Sessions.{Finishes, SessionEnds, WritesEnding, WritesLast}
-use Rattle.owner_session.specs.Work.{session}
+use Rattle.owner_session.specs.SessionWork.{session}
 use Rattle.vo_commands.specs.Committing.{IsJudgement, LeavesWith, entry_forms}
 use Rattle.vo_commands.specs.Owning.{Commits, Leaves}
 use Rattle.honest_peers.specs.Answering.{AreServed}

@@ -19,7 +19,7 @@ use Rattle.owner_state.proofs.ReplayLaws.{same_behind}
 use Rattle.vo_store.specs.StoreState.{StoreState}
 use Rattle.owner_session.specs.Runs.{AreJudgements, input_of, snapshot_of}
 use Rattle.owner_session.specs.Sessions.{SessionEnds}
-use Rattle.owner_session.specs.Work.{session}
+use Rattle.owner_session.specs.SessionWork.{session}
 use Rattle.sql_text.specs.Scripts.{IsScript}
 use Rattle.vo_commands.specs.declared.report.Report.{Report}
 use Rattle.vo_commands.specs.declared.report.Stop.{Stop}

@@ -30,7 +30,7 @@ use Rattle.vo_store.specs.StoreState.{StoreState}
 use Rattle.vo_store.specs.Calls.{install_of, proposal_of}
 use Rattle.vo_wire.specs.Answering.{KindAndBody, after_install, after_proposal, install_answer, next_after, proofs_answer, proposal_answer, reply_to, standing_of, store_after, version_answer}
 use Rattle.owner_session.specs.Endings.{Ending, StandsElsewhere}
-use Rattle.owner_session.specs.Work.{ends_with, installation, proposal}
+use Rattle.owner_session.specs.SessionWork.{ends_with, installation, proposal}
 use Rattle.vo_commands.specs.Committing.{entry_forms}
 use Rattle.honest_peers.proofs.Trading.{Deeds, OwnInput, OwnWork, Runs, input_with, traded}
 

@@ -32,7 +32,7 @@ use Rattle.round_trips.proofs.SealedJournals.{entries_fit}
 use Rattle.owner_state.specs.Held.{Held}
 use Rattle.owner_state.specs.Stepping.{StepOf, signed_entry, step_to}
 use Rattle.owner_session.specs.declared.refusals.RefusalCause.TheVariants.{Command as CommandCause}
-use Rattle.owner_session.specs.Work.{Judgement, Refuses}
+use Rattle.owner_session.specs.SessionWork.{Judgement, Refuses}
 use Rattle.vo_commands.specs.Committing.{IsJudgement, judgement_of}
 use Rattle.vo_commands.specs.Lines.{spent_key}
 

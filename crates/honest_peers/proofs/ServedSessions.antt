@@ -27,7 +27,7 @@ use Rattle.owner_session.specs.declared.place.Place.{Place}
 use Rattle.owner_session.specs.declared.place.Place.TheVariants.{Holds}
 use Rattle.owner_session.specs.Endings.{Done}
 use Rattle.owner_session.specs.Runs.{AreJudgements}
-use Rattle.owner_session.specs.Work.{Deed, answer_of, catch_up, commits, deliveries, ends_with, exchange, input_after, session, session_on, standing, with_answer, with_place}
+use Rattle.owner_session.specs.SessionWork.{Deed, answer_of, catch_up, commits, deliveries, ends_with, exchange, input_after, session, session_on, standing, with_answer, with_place}
 use Rattle.vo_store.specs.declared.signed_record.SignedRecord.{SignedRecord}
 use Rattle.vo_store.specs.HonestStores.{IsHonestAfter}
 use Rattle.vo_store.specs.Loading.{store_behind}

@@ -9,7 +9,7 @@ use Rattle.owner_state.specs.Sealing.{FitEach}
 use Rattle.link_frames.specs.Scripts.{others}
 use Rattle.vo_store.specs.StoreState.{StoreState}
 use Rattle.owner_session.specs.Endings.{Ending, Done}
-use Rattle.owner_session.specs.Work.{commits, ends_with, session, session_on}
+use Rattle.owner_session.specs.SessionWork.{commits, ends_with, session, session_on}
 use Rattle.vo_commands.specs.Committing.{entry_forms}
 use Rattle.honest_peers.specs.Owning.{EndsPlainly, IsOwnerAfter, IsStoreWithin}
 use Rattle.honest_peers.proofs.Commits.{commits_end}

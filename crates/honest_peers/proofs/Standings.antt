@@ -26,7 +26,7 @@ use Rattle.vo_wire.specs.Answering.{standing_of}
 use Rattle.owner_session.specs.declared.place.Place.{Place}
 use Rattle.owner_session.specs.declared.place.Place.TheVariants.{Holds, Elsewhere}
 use Rattle.owner_session.specs.Endings.{Ending}
-use Rattle.owner_session.specs.Work.{catch_up, deliveries, standing, with_place}
+use Rattle.owner_session.specs.SessionWork.{catch_up, deliveries, standing, with_place}
 use Rattle.vo_commands.specs.Committing.{entry_forms, place_beside, place_by, place_if_read, place_of_record}
 use Rattle.honest_peers.specs.Owning.{IsStoreAfter}
 use Rattle.honest_peers.proofs.Requests.{behind_status, status_reply}

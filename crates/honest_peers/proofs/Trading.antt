@@ -16,7 +16,7 @@ use Rattle.vo_store.specs.StoreState.{StoreState}
 use Rattle.vo_wire.specs.Answering.{KindAndBody, next_after, reply_to}
 use Rattle.owner_session.specs.Endings.{Ending}
 use Rattle.owner_session.specs.Runs.{AreJudgements}
-use Rattle.owner_session.specs.Work.{Deed, Input, Work, answer_of, exchange, input_after, is_refusal, with_answer}
+use Rattle.owner_session.specs.SessionWork.{Deed, Input, SessionWork, answer_of, exchange, input_after, is_refusal, with_answer}
 use Rattle.vo_commands.specs.Committing.{IsJudgement}
 
 abbrev pub Deeds : Type 0
@@ -26,7 +26,7 @@ abbrev pub OwnInput : Type 0
 OwnInput = Input Held Entry
 
 abbrev pub OwnWork : Type 0
-OwnWork = Work Held Batch Entry
+OwnWork = SessionWork Held Batch Entry
 
 -- the same once these bytes are to come
 abbrev pub input_with : List ℕ → OwnInput → OwnInput

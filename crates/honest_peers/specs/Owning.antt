@@ -21,7 +21,7 @@ use Rattle.vo_store.specs.StoreState.{StoreState}
 use Rattle.owner_session.specs.declared.refusals.RefusalCause.TheVariants.{Command as CommandCause}
 use Rattle.owner_session.specs.Endings.{Ending, Done, OwnerRefuses, output_of}
 use Rattle.owner_session.specs.Runs.{entries_of, state_after}
-use Rattle.owner_session.specs.Work.{Deed}
+use Rattle.owner_session.specs.SessionWork.{Deed}
 use Rattle.vo_commands.specs.Lines.{command_output, spent_key}
 
 -- An owner of this key stands behind these batches, and its journal is plain: the entries are its

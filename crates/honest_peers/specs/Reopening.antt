@@ -8,7 +8,7 @@ use Rattle.vo_spec.specs.Secret.{Secret, secret_leaves}
 use Rattle.link_frames.specs.Scripts.{others}
 use Rattle.owner_session.specs.Endings.{Ending, output_of}
 use Rattle.owner_session.specs.Runs.{AreJudgements}
-use Rattle.owner_session.specs.Work.{Judgement, session}
+use Rattle.owner_session.specs.SessionWork.{Judgement, session}
 use Rattle.owner_state.specs.Held.{Held}
 use Rattle.owner_state.specs.Sealing.{FitEach, commands_of}
 use Rattle.sql_text.specs.Scripts.{IsScript}

@@ -4,7 +4,7 @@ use Rattle.vo_spec.specs.declared.records.Entry.{Entry}
 use Rattle.link_frames.specs.Scripts.{others}
 use Rattle.owner_session.specs.Endings.{Done}
 use Rattle.owner_session.specs.Runs.{AreJudgements}
-use Rattle.owner_session.specs.Work.{Input, session}
+use Rattle.owner_session.specs.SessionWork.{Input, session}
 use Rattle.owner_state.specs.Held.{Held}
 use Rattle.vo_commands.specs.Committing.{IsJudgement, entry_forms}
 use Rattle.vo_store.specs.StoreState.{StoreState}

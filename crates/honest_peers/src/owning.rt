@@ -21,7 +21,7 @@ ghost use Rattle.owner_state.specs.Stepping.{first_entry};
 ghost use Rattle.vo_store.specs.StoreState.{StoreState};
 ghost use Rattle.owner_session.specs.Endings.{Ending};
 ghost use Rattle.owner_session.specs.Runs.{AreJudgements, input_of, snapshot_of};
-ghost use Rattle.owner_session.specs.Work.{Input, session};
+ghost use Rattle.owner_session.specs.SessionWork.{Input, session};
 ghost use Rattle.sql_text.specs.Scripts.{IsScript};
 ghost use Rattle.vo_commands.specs.Committing.{IsJudgement, entry_forms};
 ghost use Rattle.vo_commands.specs.Owning.{Commits, OwnEnds};

@@ -13,7 +13,7 @@ ghost use Rattle.vo_spec.specs.Secret.{Secret, public_of_secret};
 ghost use Rattle.owner_state.specs.Held.{Held};
 ghost use Rattle.vo_store.specs.Loading.{store_behind};
 ghost use Rattle.vo_store.specs.StoreState.{StoreState};
-ghost use Rattle.owner_session.specs.Work.{Deed, Input};
+ghost use Rattle.owner_session.specs.SessionWork.{Deed, Input};
 ghost use Rattle.vo_spec.specs.Keys.{is_public_key};
 ghost use Rattle.vo_commands.specs.Texts.{IsQueryText};
 ghost use Rattle.honest_peers.specs.Answering.{AreServed, frames_put};

@@ -4,7 +4,7 @@ use Rattle.std.proofs.lemmas.List.{drop-drop, drop_all, length-drop, length-take
 use borrow.Rule.Slice.PartMut.{put_mid}
 use Rattle.outside.specs.ConnectionModel.{ConnectionModel, take_from, take_known, Gets}
 use Rattle.outside.specs.Miss.{CountsMiss}
-use Rattle.link_frames.specs.Reading.{Took, TookAtMost, TookFewer, StaysWhereItStands, Fills, Gathered, HandsOn}
+use Rattle.link_frames.specs.Reading.{Took, TookAtMost, TookFewer, StaysWhereItStands, Fills, Gathered, GathersBytes}
 use Rattle.link_frames.specs.declared.interrupted.Interrupted.{Interrupted}
 use Rattle.link_frames.specs.declared.interrupted.Interrupted.TheVariants as interrupted
 use Rattle.link_frames.proofs.ReadLaws.{took_later}
@@ -196,7 +196,7 @@ pub handed_end : (handed n count room : ℕ) (old now new : List ℕ) (before : 
     (wire later : Option ConnectionModel) → n ≡ 0 → handed < count → 0 < room
     → HandedTo handed old now before wire
     → ((w : ConnectionModel) → wire ≡ Some w → Gathered room now new (Ok n) w later)
-    → HandsOn count old new (Ok handed) before later
+    → GathersBytes count old new (Ok handed) before later
 handed_end handed n count room old now new before wire later zero_ some wide h known =
     let g : Gathered room now new (Ok n) (take_from handed before) later = known (take_from handed before) h.2 in
     let none : drop handed before.coming ≡ [] = (g.2 wide).0 zero_ in
@@ -211,7 +211,7 @@ handed_end handed n count room old now new before wire later zero_ some wide h k
 pub hands_err : (handed count room : ℕ) (old now new : List ℕ) (fault : Interrupted) (before : ConnectionModel)
     (wire : Option ConnectionModel) → handed < count → handed ≤ length before.coming → room ≤ count - handed
     → Gathered room now new (Err fault) (take_from handed before) wire
-    → HandsOn count old new (Err fault) before wire
+    → GathersBytes count old new (Err fault) before wire
 hands_err handed count room old now new interrupted.LinkFault before wire below there fits t =
     (handed + 0, omega (arith, below), omega (arith, there), took_later handed 0 before wire t)
 hands_err handed count room old now new interrupted.Memory before wire below there fits t = (
@@ -230,5 +230,5 @@ piece_grows n old now piece within added =
 
 pub handed_all : (handed count : ℕ) (old now : List ℕ) (before : ConnectionModel) (wire : Option ConnectionModel)
     → count ≤ handed → handed ≤ count → HandedTo handed old now before wire
-    → HandsOn count old now (Ok handed) before wire
+    → GathersBytes count old now (Ok handed) before wire
 handed_all handed count old now before wire full within h = (omega (arith, h.0), h.1, h.2)

@@ -13,7 +13,7 @@ use Rattle.link_frames.specs.declared.head.FrameHead.{FrameHead}
 use Rattle.link_frames.specs.declared.frame_kind.FrameKind.{FrameKind}
 use Rattle.link_frames.specs.declared.frame_kind.FrameKind.TheVariants.{Refusal}
 use Rattle.link_frames.specs.Frames.{Coming, Whole, Ended, Cut, Bad, span, with_body, with_kind, may_come, is_length, behind_length, first_frame, kind_of}
-use Rattle.link_frames.specs.Reading.{Took, IsFrame, TookAtMost, TookFewer, TookPart, TookRest, TookRestOrFront, TookWithin, ReadsAs, Adds, ReadsHead, Fills, HandsOn, IsHeadOf, AsksAs, IsBrokenOff, IsHalfAsked}
+use Rattle.link_frames.specs.Reading.{Took, IsFrame, TookAtMost, TookFewer, TookPart, TookRest, TookRestOrFront, TookWithin, ReadsAs, Adds, ReadsHead, Fills, GathersBytes, IsHeadOf, AsksAs, IsBrokenOff, IsHalfAsked}
 
 -- taken twice is taken at once
 pub took_later : (k n : ℕ) (w : ConnectionModel) (wire : Option ConnectionModel)
@@ -311,7 +311,7 @@ length_read E awaits number old new result w wire later four is h known =
 
 -- the bytes end inside the body
 pub body_cut : {X : Type 0} (Is : Coming → X → Type 0) (kind : FrameKind) (n came : ℕ) (old now : List ℕ)
-    (w : ConnectionModel) (wire : Option ConnectionModel) → came < n → HandsOn n old now (Ok came) w wire
+    (w : ConnectionModel) (wire : Option ConnectionModel) → came < n → GathersBytes n old now (Ok came) w wire
     → ReadsAs Is 5 (with_body kind n w.coming) (Err (no_frame.Cut (5 + came))) w wire
 body_cut Is kind n came old now w wire short h =
     let all : length w.coming ≡ came = omega (arith, h.0) in
@@ -320,7 +320,7 @@ body_cut Is kind n came old now w wire short h =
 
 -- the body is there
 pub body_whole : (kind : FrameKind) (n came : ℕ) (old now : List ℕ) (w : ConnectionModel)
-    (wire : Option ConnectionModel) → n ≤ came → HandsOn n old now (Ok came) w wire
+    (wire : Option ConnectionModel) → n ≤ came → GathersBytes n old now (Ok came) w wire
     → Adds kind old now (with_body kind n w.coming) × TookRest 5 (with_body kind n w.coming) w wire
 body_whole kind n came old now w wire long h =
     let all : came ≡ n = omega (arith, h.0) in

@@ -76,13 +76,13 @@ Gathered room old new (Err interrupted.LinkFault) before after = Took 0 before a
 Gathered room old new (Err interrupted.Memory) before after = TookAtMost room before after
 
 -- the next bytes of what comes, so many or all that are left, are put behind what was gathered
-abbrev pub HandsOn : ℕ → List ℕ → List ℕ → Result ℕ Interrupted → ConnectionModel
+abbrev pub GathersBytes : ℕ → List ℕ → List ℕ → Result ℕ Interrupted → ConnectionModel
     → Option ConnectionModel → Type 0
-HandsOn count old new (Ok n) before after =
+GathersBytes count old new (Ok n) before after =
     (n ≡ min count (length before.coming)) × (new ≡ old ++ take n before.coming)
     × Took n before after
-HandsOn count old new (Err interrupted.LinkFault) before after = TookFewer count before after
-HandsOn count old new (Err interrupted.Memory) before after = TookAtMost count before after
+GathersBytes count old new (Err interrupted.LinkFault) before after = TookFewer count before after
+GathersBytes count old new (Err interrupted.Memory) before after = TookAtMost count before after
 
 -- Why there is no frame is what comes first.
 abbrev pub Misses : Coming → NoFrame → Type 0

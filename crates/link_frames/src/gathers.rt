@@ -1,7 +1,7 @@
 //! Bytes of a link, handed on in pieces as they come.
 ghost use Rattle.std.specs.Prelude.{◌≡◌, ℕ, ◌+◌, ◌≤◌, ◌++◌, List, length, Some, OnOk, IfOk, IsErrOf};
 ghost use Rattle.outside.specs.ConnectionModel.{ConnectionModel};
-ghost use Rattle.link_frames.specs.Reading.{Gathered, HandsOn, KeepsLinkCounts};
+ghost use Rattle.link_frames.specs.Reading.{Gathered, GathersBytes, KeepsLinkCounts};
 
 use crate::interrupted::Interrupted;
 use outside::Link;
@@ -40,13 +40,13 @@ impl Gathers for Vec<u8> {
 }
 
 /// Hands on the next `count` bytes, or all that are left, and tells how many they were.
-pub fn hand_on<L: Link, G: Gathers>(
+pub fn gather_bytes<L: Link, G: Gathers>(
     link: &mut L,
     into: &mut G,
     count: usize,
 ) -> Result<usize, Interrupted>
     ensures known { (before : ConnectionModel) → L.wire link.old ≡ Some before
-        → HandsOn count (G.gathered into.old) (G.gathered into.new) result before
+        → GathersBytes count (G.gathered into.old) (G.gathered into.new) result before
         (L.wire link.new) }
     ensures fits { IfOk result (λ n. n ≤ count) }
     ensures grows { IfOk result
@@ -60,7 +60,7 @@ pub fn hand_on<L: Link, G: Gathers>(
     let mut handed = 0;
     while handed < count {
         let room = PIECE.min(count - handed);
-        match hand_piece(link, into, &mut piece[..room])? {
+        match gather_piece(link, into, &mut piece[..room])? {
             0 => return Ok(handed),
             came => handed += came,
         }
@@ -69,7 +69,7 @@ pub fn hand_on<L: Link, G: Gathers>(
 }
 
 /// Hands on what one call of the link gives.
-fn hand_piece<L: Link, G: Gathers>(
+fn gather_piece<L: Link, G: Gathers>(
     link: &mut L,
     into: &mut G,
     piece: &mut [u8],

@@ -31,7 +31,7 @@ pub use exchange::ask;
 pub use frame::{Frame, NoFrame};
 pub use frame_kind::FrameKind;
 pub use gathered_exchange::ask_into;
-pub use gathers::{Gathers, hand_on};
+pub use gathers::{Gathers, gather_bytes};
 pub use head::{FrameHead, read_head};
 pub use interrupted::Interrupted;
 pub use laws::frames_read_back;

@@ -9,7 +9,7 @@ use crate::awaits::Awaits;
 use crate::fill::fill;
 use crate::frame::NoFrame;
 use crate::frame_kind::FrameKind;
-use crate::gathers::{Gathers, hand_on};
+use crate::gathers::{Gathers, gather_bytes};
 use crate::head::{FrameHead, HEAD, read_head};
 use crate::interrupted::Interrupted;
 use crate::received::Received;
@@ -101,7 +101,7 @@ pub(crate) fn gather_body<L: Link, G: Gathers>(
     ensures counts { KeepsLinkCounts L.wire L.faults L.misses link.old link.new
         (IsErrOf result NoFrame.LinkFault) }
 {
-    match hand_on(link, into, head.length) {
+    match gather_bytes(link, into, head.length) {
         Ok(came) if came < head.length => Err(NoFrame::Cut { got: HEAD + came }),
         Ok(_) => Ok(()),
         Err(Interrupted::LinkFault) => Err(NoFrame::LinkFault),

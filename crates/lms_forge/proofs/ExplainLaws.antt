@@ -8,7 +8,7 @@ use Rattle.vo_spec.specs.Ots.{step_text, advance, secret, randomizer, message_te
 use Rattle.lm_ots.proofs.Chaining.{advance_rest}
 use Rattle.vo_spec.specs.SecretTrees.{SecretTree}
 use Rattle.lms_forge.specs.Forgeries.{Forgery}
-use Rattle.lms_forge.specs.Shown.{one_time, forged_digits, last_digit, forged_value, value_shown_by, known_value}
+use Rattle.lms_forge.specs.ChainValues.{one_time, forged_digits, last_digit, forged_value, value_shown_by, known_value}
 use Rattle.lms_forge.specs.Places.{Place, above, leaf, public_key, message_digest, chain_step, AreOnWay, AreMessages, AreHashedAt}
 use Rattle.lms_forge.specs.Parts.{SameParts, PartsCompared}
 use Rattle.lms_forge.specs.Lowering.{own_digit, FirstLower, AreOthers, ReleasedCompared, own_digits_of}

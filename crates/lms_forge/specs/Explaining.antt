@@ -7,7 +7,7 @@ use Rattle.lms_forge.specs.declared.explanation.Explanation.{Explanation}
 use Rattle.lms_forge.specs.declared.explanation.Explanation.TheVariants.{Collides as Collide, Chain}
 use Rattle.lms_forge.specs.Forgeries.{Forgery}
 use Rattle.lms_forge.specs.Places.{Place, AreHashedAt}
-use Rattle.lms_forge.specs.Shown.{forged_value, known_value}
+use Rattle.lms_forge.specs.ChainValues.{forged_value, known_value}
 
 -- The forged signature has a value of chain i from before the known step, which leads to the value
 -- known there.

@@ -5,4 +5,4 @@ pub mod Forgeries
 pub mod Lowering
 pub mod Parts
 pub mod Places
-pub mod Shown
+pub mod ChainValues

@@ -10,7 +10,7 @@ use Rattle.vo_spec.specs.Lms.{leaf_text, leaf_node, climb, path_at, ots_part}
 use Rattle.vo_spec.specs.SecretTrees.{SecretTree, tree_node, path_node}
 use Rattle.lms_sign.specs.Paths.{parent_text}
 use Rattle.lms_forge.specs.Forgeries.{Forgery}
-use Rattle.lms_forge.specs.Shown.{one_time, forged_digits}
+use Rattle.lms_forge.specs.ChainValues.{one_time, forged_digits}
 
 -- In the order from the root down: above a node of the path, which is so many levels above the
 -- leaf; at the leaf; at the one-time public key; at the message's digest; at a step of a chain.

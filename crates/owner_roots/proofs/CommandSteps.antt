@@ -15,7 +15,7 @@ use Rattle.vo_spec.specs.Fits.{FitsTree}
 use Rattle.owner_roots.specs.declared.owner_fault.OwnerFault.{OwnerFault}
 use Rattle.owner_roots.specs.declared.owner_fault.OwnerFault.TheVariants as fault
 use Rattle.table_list.specs.TableHeaders.{command_name}
-use Rattle.owner_roots.specs.Next.{table_header, place_of, rows_changed, table_by_command, tables_with, tables_after, tables_changed, tables_from, trees_taken}
+use Rattle.owner_roots.specs.Next.{table_header, table_number, rows_changed, table_by_command, tables_with, catalog_after, tables_changed, tables_from, trees_taken}
 use Rattle.mb_tree.specs.declared.parts.PartTree.{PartTree}
 use Rattle.mb_tree.specs.View.{part_of}
 use Rattle.owner_roots.specs.Seen.{table_with}
@@ -23,23 +23,23 @@ use Rattle.owner_roots.specs.Working.{FitCatalog, Gives}
 use Rattle.owner_roots.proofs.PlaceLaws.{none_past}
 
 pub command_allowed : (index : ℕ) (c : Command) (trees : List RowTree) (tables : List CatalogTable) → refusal c (map table_header tables) ≡ None
-    → tables_after index c trees tables ≡ tables_changed index c trees tables
-unfolding tables_after
+    → catalog_after index c trees tables ≡ tables_changed index c trees tables
+unfolding catalog_after
 command_allowed index c trees tables e =
     ap (λ r. and_then (tables_changed index c trees) (unless (option_map_or (λ why. Some (fault.Command index why)) r None) tables)) e
 
 pub command_refused : (index : ℕ) (c : Command) (trees : List RowTree) (tables : List CatalogTable) (why : CommandFault) → refusal c (map table_header tables) ≡ Some why
-    → tables_after index c trees tables ≡ Err (fault.Command index why)
-unfolding tables_after
+    → catalog_after index c trees tables ≡ Err (fault.Command index why)
+unfolding catalog_after
 command_refused index c trees tables why e =
     ap (λ r. and_then (tables_changed index c trees) (unless (option_map_or (λ why. Some (fault.Command index why)) r None) tables)) e
 
 pub allowed_gives : {X : Type 0} (view : X → List CatalogTable) (r : Result X OwnerFault) (index : ℕ) (c : Command) (trees : List RowTree) (tables : List CatalogTable)
-    → refusal c (map table_header tables) ≡ None → Gives view r (tables_changed index c trees tables) → Gives view r (tables_after index c trees tables)
+    → refusal c (map table_header tables) ≡ None → Gives view r (tables_changed index c trees tables) → Gives view r (catalog_after index c trees tables)
 allowed_gives view r index c trees tables e gives = subst (Gives view r) (sym (command_allowed index c trees tables e)) gives
 
 -- what comes of the commands to come, where one was done
-pub one_done : (index : ℕ) (c : Command) (cs : List Command) (trees : List RowTree) (tables after : List CatalogTable) → tables_after index c trees tables ≡ Ok after
+pub one_done : (index : ℕ) (c : Command) (cs : List Command) (trees : List RowTree) (tables after : List CatalogTable) → catalog_after index c trees tables ≡ Ok after
     → tables_from index (c ∷ cs) trees tables ≡ tables_from (index + 1) cs (drop (trees_taken c) trees) after
 one_done index c cs trees tables after e = ap (and_then (tables_from (index + 1) cs (drop (trees_taken c) trees))) e
 
@@ -56,10 +56,10 @@ passed_on view other f keeps fault.KeySpent r gives = ap f gives ∙ keeps fault
 
 -- and so where one wasn't
 pub one_refused : {X X' : Type 0} (view : X → List CatalogTable) (other : X' → List CatalogTable) (index : ℕ) (c : Command) (cs : List Command) (trees : List RowTree)
-    (tables : List CatalogTable) (why : OwnerFault) → Gives view (Err why) (tables_after index c trees tables)
+    (tables : List CatalogTable) (why : OwnerFault) → Gives view (Err why) (catalog_after index c trees tables)
     → Gives other (Err why) (tables_from index (c ∷ cs) trees tables)
 one_refused view other index c cs trees tables why gives =
-    passed_on view other (and_then (tables_from (index + 1) cs (drop (trees_taken c) trees))) (λ _. refl) why (tables_after index c trees tables) gives
+    passed_on view other (and_then (tables_from (index + 1) cs (drop (trees_taken c) trees))) (λ _. refl) why (catalog_after index c trees tables) gives
 
 pub each_dropped : {X : Type 0} (P : X → Type 0) (n : ℕ) (xs : List X) → AllByRecursion P xs → AllByRecursion P (drop n xs)
 each_dropped P zero xs all = all
@@ -73,20 +73,20 @@ get_there [] i x lt e = absurd (omega arith)
 get_there (y ∷ xs) zero x lt e = ap Some (sym e)
 get_there (y ∷ xs) (suc i) x lt e = get_there xs i x (omega arith) e
 
-pub rows_at : (index : ℕ) (c : Command) (trees : List RowTree) (tables : List CatalogTable) (place : ℕ) (t : CatalogTable) → place ≡ place_of (command_name c) tables
+pub rows_at : (index : ℕ) (c : Command) (trees : List RowTree) (tables : List CatalogTable) (place : ℕ) (t : CatalogTable) → place ≡ table_number (command_name c) tables
     → slice_get tables place ≡ Some t → rows_changed index c trees tables ≡ tables_with place tables (table_by_command index c trees t)
 rows_at index c trees tables place t is there =
     ap (λ i. option_map_or (λ u. tables_with i tables (table_by_command index c trees u)) (slice_get tables i) (Ok tables)) (sym is)
     ∙ ap (λ o. option_map_or (λ u. tables_with place tables (table_by_command index c trees u)) o (Ok tables)) there
 
-pub rows_nowhere : (index : ℕ) (c : Command) (trees : List RowTree) (tables : List CatalogTable) (place : ℕ) → place ≡ place_of (command_name c) tables
+pub rows_nowhere : (index : ℕ) (c : Command) (trees : List RowTree) (tables : List CatalogTable) (place : ℕ) → place ≡ table_number (command_name c) tables
     → length tables ≤ place → rows_changed index c trees tables ≡ Ok tables
 rows_nowhere index c trees tables place is past =
     ap (λ i. option_map_or (λ u. tables_with i tables (table_by_command index c trees u)) (slice_get tables i) (Ok tables)) (sym is)
     ∙ ap (λ o. option_map_or (λ u. tables_with place tables (table_by_command index c trees u)) o (Ok tables)) (none_past tables place past)
 
 pub rows_refused : {X : Type 0} (view : X → List CatalogTable) (index : ℕ) (c : Command) (trees : List RowTree) (tables : List CatalogTable) (place : ℕ) (t : CatalogTable)
-    (why : OwnerFault) → place ≡ place_of (command_name c) tables → slice_get tables place ≡ Some t → Gives (table_with t) (Err why) (table_by_command index c trees t)
+    (why : OwnerFault) → place ≡ table_number (command_name c) tables → slice_get tables place ≡ Some t → Gives (table_with t) (Err why) (table_by_command index c trees t)
     → Gives view (Err why) (rows_changed index c trees tables)
 rows_refused view index c trees tables place t why is there gives =
     subst (Gives view (Err why)) (sym (rows_at index c trees tables place t is there))
@@ -119,11 +119,11 @@ left_fit taken trees left is all = subst (AllByRecursion FitsTree) (sym (left_se
 
 -- a command is done
 pub left_after : (index taken n : ℕ) (c : Command) (cs all : List Command) (trees left : List PartTree) (tables after before : List CatalogTable)
-    → IsLeft index taken (c ∷ cs) all trees tables before → left ≡ drop taken trees → tables_after index c (map part_of left) tables ≡ Ok after → FitCatalog after
+    → IsLeft index taken (c ∷ cs) all trees tables before → left ≡ drop taken trees → catalog_after index c (map part_of left) tables ≡ Ok after → FitCatalog after
     → n ≡ trees_taken c → IsLeft (index + 1) (taken + n) cs all trees after before
 left_after index taken n c cs all trees left tables after before is same done within taking =
     let ms : List RowTree = map part_of trees in
-    let made : tables_after index c (drop taken ms) tables ≡ Ok after = subst (λ ts. tables_after index c ts tables ≡ Ok after) (left_seen taken trees left same) done in
+    let made : catalog_after index c (drop taken ms) tables ≡ Ok after = subst (λ ts. catalog_after index c ts tables ≡ Ok after) (left_seen taken trees left same) done in
     let few : trees_taken c ≤ 1 = one_at_most c in
     let before_it : taken ≤ index = is.few in
     record {
@@ -139,11 +139,11 @@ left_after index taken n c cs all trees left tables after before is same done wi
 -- a command is refused
 pub left_refused : {X X' : Type 0} (view : X → List CatalogTable) (other : X' → List CatalogTable) (index taken : ℕ) (c : Command) (cs all : List Command) (trees left : List PartTree)
     (tables before : List CatalogTable) (why : OwnerFault) → IsLeft index taken (c ∷ cs) all trees tables before → left ≡ drop taken trees
-    → Gives view (Err why) (tables_after index c (map part_of left) tables) → Gives other (Err why) (tables_from 0 all (map part_of trees) before)
+    → Gives view (Err why) (catalog_after index c (map part_of left) tables) → Gives other (Err why) (tables_from 0 all (map part_of trees) before)
 left_refused view other index taken c cs all trees left tables before why is same gives =
     subst (Gives other (Err why)) is.answer
     (one_refused view other index c cs (drop taken (map part_of trees)) tables why
-    (subst (λ ts. Gives view (Err why) (tables_after index c ts tables)) (left_seen taken trees left same) gives))
+    (subst (λ ts. Gives view (Err why) (catalog_after index c ts tables)) (left_seen taken trees left same) gives))
 
 -- all are done
 all_taken : (index n : ℕ) (ts : List RowTree) (tables : List CatalogTable) → length ts ≤ n → tables_from index [] (drop n ts) tables ≡ Ok tables

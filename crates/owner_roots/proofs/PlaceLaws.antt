@@ -3,7 +3,7 @@ use Rattle.std.proofs.Common.{◌≡◌, ℕ, zero, suc, ◌+◌, ◌≤◌, Boo
 use Rattle.std.specs.Prelude.{bytes_eq, slice_get, option_map}
 use Rattle.vo_spec.specs.declared.records.CatalogTable.{CatalogTable}
 use Rattle.vo_spec.specs.Tables.{table_header_named}
-use Rattle.owner_roots.specs.Next.{table_header, place_of}
+use Rattle.owner_roots.specs.Next.{table_header, table_number}
 
 suc_is : (n : ℕ) → 1 + n ≡ suc n
 suc_is n = omega arith
@@ -12,14 +12,14 @@ pub get_next : {X : Type 0} (x : X) (xs : List X) (n : ℕ) → slice_get (x ∷
 get_next x xs n = ap (slice_get (x ∷ xs)) (suc_is n)
 
 pub table_header_there : (name : List ℕ) (tables : List CatalogTable)
-    → table_header_named name (map table_header tables) ≡ option_map table_header (slice_get tables (place_of name tables))
+    → table_header_named name (map table_header tables) ≡ option_map table_header (slice_get tables (table_number name tables))
 table_header_there name [] = refl
 table_header_there name (t ∷ tables) = step (bytes_eq t.name name) (table_header_there name tables)
   where
-    step : (b : Bool) → table_header_named name (map table_header tables) ≡ option_map table_header (slice_get tables (place_of name tables))
-        → cond b (Some (table_header t)) (table_header_named name (map table_header tables)) ≡ option_map table_header (slice_get (t ∷ tables) (cond (not b) (1 + place_of name tables) 0))
+    step : (b : Bool) → table_header_named name (map table_header tables) ≡ option_map table_header (slice_get tables (table_number name tables))
+        → cond b (Some (table_header t)) (table_header_named name (map table_header tables)) ≡ option_map table_header (slice_get (t ∷ tables) (cond (not b) (1 + table_number name tables) 0))
     step true e = refl
-    step false e = e ∙ ap (option_map table_header) (sym (get_next t tables (place_of name tables)))
+    step false e = e ∙ ap (option_map table_header) (sym (get_next t tables (table_number name tables)))
 
 pub none_past : {X : Type 0} (xs : List X) (i : ℕ) → length xs ≤ i → slice_get xs i ≡ None
 none_past [] i h = refl

@@ -13,7 +13,7 @@ use Rattle.vo_spec.specs.Tables.{table_header_of, refusal, row_of, table_named}
 use Rattle.vo_spec.specs.Records.{FitsCatalogTable}
 use Rattle.vo_laws.proofs.CommandLaws.{insertable, row_fits}
 use Rattle.table_list.specs.TableHeaders.{command_name}
-use Rattle.owner_roots.specs.Next.{table_header, place_of}
+use Rattle.owner_roots.specs.Next.{table_header, table_number}
 use Rattle.owner_roots.specs.Working.{FitCatalog, IsReady}
 use Rattle.owner_roots.proofs.PlaceLaws.{get_next}
 use Rattle.owner_roots.proofs.CatalogLaws.{each_at}
@@ -37,34 +37,34 @@ table_headers_plain (t ∷ tables) =
     ap (λ n. record { name = t.name; schema = t.schema; count = n } ∷ map table_header_of (map plain tables)) (how_many t.rows)
     ∙ ap (λ hs. table_header t ∷ hs) (table_headers_plain tables)
 
-named_plain : (name : List ℕ) (tables : List CatalogTable) (t : CatalogTable) → slice_get tables (place_of name tables) ≡ Some t
+named_plain : (name : List ℕ) (tables : List CatalogTable) (t : CatalogTable) → slice_get tables (table_number name tables) ≡ Some t
     → table_named name (map plain tables) ≡ Some (plain t)
 named_plain name [] t e = absurd (cc)
 named_plain name (s ∷ tables) t e = step (bytes_eq s.name name) e (named_plain name tables t)
   where
-    step : (b : Bool) → slice_get (s ∷ tables) (cond (not b) (1 + place_of name tables) 0) ≡ Some t
-        → (slice_get tables (place_of name tables) ≡ Some t → table_named name (map plain tables) ≡ Some (plain t))
+    step : (b : Bool) → slice_get (s ∷ tables) (cond (not b) (1 + table_number name tables) 0) ≡ Some t
+        → (slice_get tables (table_number name tables) ≡ Some t → table_named name (map plain tables) ≡ Some (plain t))
         → cond b (Some (plain s)) (table_named name (map plain tables)) ≡ Some (plain t)
     step true f rest = let same : s ≡ t = cc in ap (λ (z : CatalogTable). Some (plain z)) same
-    step false f rest = rest (sym (get_next s tables (place_of name tables)) ∙ f)
+    step false f rest = rest (sym (get_next s tables (table_number name tables)) ∙ f)
 
 insert_ready : (name : List ℕ) (values : List Value) (tables : List CatalogTable) (t : CatalogTable) → FitCatalog tables → FitsCommand (Insert name values)
-    → refusal (Insert name values) (map table_header tables) ≡ None → slice_get tables (place_of name tables) ≡ Some t → IsReady (Insert name values) t
+    → refusal (Insert name values) (map table_header tables) ≡ None → slice_get tables (table_number name tables) ≡ Some t → IsReady (Insert name values) t
 unfolding FitsCommand
 insert_ready name values tables t within fits e found =
     let allowed : refusal (Insert name values) (map table_header_of (map plain tables)) ≡ None = ap (refusal (Insert name values)) (table_headers_plain tables) ∙ e in
     let insertion = insertable name values (map plain tables) allowed (plain t) (named_plain name tables t found) in
-    let table : FitsCatalogTable t = each_at FitsCatalogTable tables (place_of name tables) t found within.each in
+    let table : FitsCatalogTable t = each_at FitsCatalogTable tables (table_number name tables) t found within.each in
     let row : FitsRow (row_of t.schema values) = row_fits (plain t) values table.schema fits.1 insertion in
     let few : length (any_rows t.rows) < 2 ^ 32 - 1 = insertion.room in
     (row, omega (arith, how_many t.rows))
 
 pub ready : (c : Command) (tables : List CatalogTable) (t : CatalogTable) → FitCatalog tables → FitsCommand c
-    → refusal c (map table_header tables) ≡ None → slice_get tables (place_of (command_name c) tables) ≡ Some t → IsReady c t
+    → refusal c (map table_header tables) ≡ None → slice_get tables (table_number (command_name c) tables) ≡ Some t → IsReady c t
 unfolding FitsCommand
 ready (Create name columns key) tables t within fits e found = (tt, tt)
 ready (Drop name) tables t within fits e found = (tt, tt)
 ready (Insert name values) tables t within fits e found = insert_ready name values tables t within fits e found
 ready (Update name sets column value) tables t within fits e found =
-    ((fits.1.2, (each_at FitsCatalogTable tables (place_of name tables) t found within.each).schema.columns.1), tt)
+    ((fits.1.2, (each_at FitsCatalogTable tables (table_number name tables) t found within.each).schema.columns.1), tt)
 ready (Delete name column value) tables t within fits e found = (tt, tt)

@@ -18,5 +18,5 @@ has_cell_count schema (Cells cells) = length cells == length schema.columns - 1
 abbrev pub entry_has_form : Schema → PartEntry → Bool
 entry_has_form schema e = is_key_of (key_kind schema) e.key && has_cell_count schema e.row
 
-abbrev pub has_form : Schema → RowTree → Bool
-has_form schema p = list_all (entry_has_form schema) (entries p)
+abbrev pub has_schema_form : Schema → RowTree → Bool
+has_schema_form schema p = list_all (entry_has_form schema) (entries p)

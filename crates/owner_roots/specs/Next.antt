@@ -22,7 +22,7 @@ use Rattle.owner_roots.specs.declared.owner_fault.OwnerFault.{OwnerFault}
 use Rattle.owner_roots.specs.declared.owner_fault.OwnerFault.TheVariants as fault
 use Rattle.owner_roots.specs.declared.roots.Roots.{Roots}
 use Rattle.row_works.specs.Operations.{operation, changed_tree, changed_count}
-use Rattle.owner_roots.specs.Forms.{has_form}
+use Rattle.owner_roots.specs.Forms.{has_schema_form}
 
 -- Tables by their names.
 
@@ -30,8 +30,8 @@ abbrev pub table_header : CatalogTable → TableHeader
 table_header t = record { name = t.name; schema = t.schema; count = t.rows }
 
 -- the number of the table of this name, or else how many there are
-abbrev pub place_of : List ℕ → List CatalogTable → ℕ
-place_of name tables = position_or_len (λ (t : CatalogTable). bytes_eq t.name name) tables
+abbrev pub table_number : List ℕ → List CatalogTable → ℕ
+table_number name tables = position_or_len (λ (t : CatalogTable). bytes_eq t.name name) tables
 
 -- the number of the first table of a greater name, or else how many there are
 abbrev pub place_for : List ℕ → List CatalogTable → ℕ
@@ -52,7 +52,7 @@ new_table name columns key = record {
 -- number
 abbrev pub proof_fault : ℕ → CatalogTable → Op → RowTree → Option OwnerFault
 proof_fault index t op p = first_of
-    ((not (has_form t.schema p), fault.ProofForm index)
+    ((not (has_schema_form t.schema p), fault.ProofForm index)
     ∷ (not (bytes_eq t.root (digest p)), fault.ProofRoot index t.root (digest p))
     ∷ (update_is_missing op p, fault.ProofMissing index)
     ∷ (update_has_surplus op p, fault.ProofSurplus index)
@@ -93,7 +93,7 @@ table_by_command index c trees t =
 abbrev pub rows_changed : ℕ → Command → List RowTree → List CatalogTable
     → Result (List CatalogTable) OwnerFault
 rows_changed index c trees tables =
-    let place = place_of (command_name c) tables in
+    let place = table_number (command_name c) tables in
     option_map_or (λ t. tables_with place tables (table_by_command index c trees t))
     (slice_get tables place) (Ok tables)
 
@@ -104,7 +104,7 @@ abbrev pub tables_changed : ℕ → Command → List RowTree → List CatalogTab
     → Result (List CatalogTable) OwnerFault
 tables_changed index (Create name columns key) trees tables =
     Ok (insert tables (place_for name tables) (new_table name columns key))
-tables_changed index (Drop name) trees tables = Ok (remove tables (place_of name tables))
+tables_changed index (Drop name) trees tables = Ok (remove tables (table_number name tables))
 tables_changed index c trees tables = rows_changed index c trees tables
 
 abbrev pub catalog_fault : ℕ → Command → List CatalogTable → Option OwnerFault
@@ -113,9 +113,9 @@ catalog_fault index c tables =
 
 -- the tables after the command of this number, by the trees that are left, or the first test that
 -- refuses it
-unfoldable pub tables_after : ℕ → Command → List RowTree → List CatalogTable
+unfoldable pub catalog_after : ℕ → Command → List RowTree → List CatalogTable
     → Result (List CatalogTable) OwnerFault
-tables_after index c trees tables =
+catalog_after index c trees tables =
     and_then (tables_changed index c trees) (unless (catalog_fault index c tables) tables)
 
 -- how many trees a command takes: one, if it is on rows
@@ -132,7 +132,7 @@ tables_from index [] [] tables = Ok tables
 tables_from index [] (p ∷ ps) tables = Err (fault.ProofSurplus index)
 tables_from index (c ∷ cs) trees tables =
     and_then (tables_from (index + 1) cs (drop (trees_taken c) trees))
-    (tables_after index c trees tables)
+    (catalog_after index c trees tables)
 
 -- Roots.
 

@@ -5,12 +5,12 @@ ghost use Rattle.vo_spec.specs.Batches.{FitsCommand, max_columns, max_commands};
 ghost use Rattle.vo_spec.specs.Fits.{FitsTree};
 ghost use Rattle.vo_spec.specs.Tables.{refusal};
 ghost use Rattle.mb_tree.specs.View.{part_of};
-ghost use Rattle.owner_roots.specs.Next.{table_header, place_of, tables_after, tables_changed, tables_from, trees_taken};
+ghost use Rattle.owner_roots.specs.Next.{table_header, table_number, catalog_after, tables_changed, tables_from, trees_taken};
 ghost use Rattle.owner_roots.specs.Next.{new_table as made_table};
 ghost use Rattle.owner_roots.specs.Working.{FitCatalog, Gives};
 
 use crate::owner_fault::OwnerFault;
-use crate::places::{place_for, place_of, refusal};
+use crate::places::{place_for, refusal, table_number};
 use crate::row_commands::change_rows;
 use mb_tree::PartTree;
 use std::alloc::{AllocError, Global};
@@ -38,9 +38,9 @@ fn new_table(
 /// Takes the table of this name out.
 #[tactic(auto, using(crate::proofs::CatalogLaws::removed_nowhere))]
 fn drop_table(tables: &mut Vec<CatalogTable>, name: &[u8])
-    ensures { tables.new.items ≡ remove tables.old.items (place_of name.now tables.old.items) }
+    ensures { tables.new.items ≡ remove tables.old.items (table_number name.now tables.old.items) }
 {
-    let place = place_of(tables.as_slice(), name);
+    let place = table_number(tables.as_slice(), name);
     if place < tables.len() {
         tables.remove(place);
     }
@@ -91,7 +91,7 @@ fn apply_command(
     requires fits { FitsCommand command.now }
     requires trees { AllByRecursion FitsTree (map part_of trees.now) }
     ensures answer { Gives (λ _. tables.new.items) result
-        (tables_after index command.now (map part_of trees.now) tables.old.items) }
+        (catalog_after index command.now (map part_of trees.now) tables.old.items) }
     ensures within { OnOk result (FitCatalog tables.new.items) }
 {
     match refusal(tables.as_slice(), command) {

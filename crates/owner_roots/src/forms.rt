@@ -1,7 +1,7 @@
 //! Whether a tree has the form of its table's.
 ghost use Rattle.std.specs.Prelude.{◌≡◌};
 ghost use Rattle.mb_tree.specs.View.{part_of};
-ghost use Rattle.owner_roots.specs.Forms.{has_form};
+ghost use Rattle.owner_roots.specs.Forms.{has_schema_form};
 
 use mb_tree::PartTree;
 use tree_shape::{RowForm, entries_have_form};
@@ -9,8 +9,8 @@ use vo_spec::{RowPart, Schema};
 
 /// Whether the keys of the tree's leaves are keys of the schema, and the rows that stand as cells
 /// have as many as the schema.
-pub(crate) fn has_form(schema: &Schema, tree: &PartTree<'_>) -> bool
-    ensures { result ≡ has_form schema.now (part_of tree.now) }
+pub(crate) fn has_schema_form(schema: &Schema, tree: &PartTree<'_>) -> bool
+    ensures { result ≡ has_schema_form schema.now (part_of tree.now) }
 {
     entries_have_form::<WholeRows>(schema, tree)
 }

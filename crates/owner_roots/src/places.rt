@@ -3,14 +3,14 @@ ghost use Rattle.std.specs.Prelude.{◌≡◌, ◌≤◌, length, map, option_ma
 ghost use Rattle.vo_spec.specs.Values.{key_lt};
 ghost use Rattle.vo_spec.specs.Tables.{refusal};
 ghost use Rattle.table_list.specs.TableHeaders.{table_header_seen};
-ghost use Rattle.owner_roots.specs.Next.{table_header, place_for, place_of};
+ghost use Rattle.owner_roots.specs.Next.{table_header, place_for, table_number};
 
 use table_list::{TableHeaderRef, command_name, first_refusal};
 use vo_spec::{CatalogTable, Command, CommandFault};
 
 /// The number of the table of this name, or else how many there are.
-pub(crate) fn place_of(tables: &[CatalogTable], name: &[u8]) -> usize
-    ensures place { result ≡ place_of name.now tables.now }
+pub(crate) fn table_number(tables: &[CatalogTable], name: &[u8]) -> usize
+    ensures place { result ≡ table_number name.now tables.now }
     ensures bound { result ≤ length tables.now }
 {
     let mut place = 0;
@@ -57,9 +57,9 @@ fn table_header_of(table: &CatalogTable) -> TableHeaderRef<'_>
 /// The table of this name.
 fn table_named<'t>(tables: &'t [CatalogTable], name: &[u8]) -> Option<&'t CatalogTable>
     ensures { option_map (λ t. t.now) result
-        ≡ slice_get tables.now (place_of name.now tables.now) }
+        ≡ slice_get tables.now (table_number name.now tables.now) }
 {
-    tables.get(place_of(tables, name))
+    tables.get(table_number(tables, name))
 }
 
 /// Why the catalog refuses a command.

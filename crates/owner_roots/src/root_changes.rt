@@ -9,7 +9,7 @@ ghost use Rattle.owner_roots.specs.Seen.{table_with};
 ghost use Rattle.row_works.specs.Limits.{FitsOp};
 ghost use Rattle.owner_roots.specs.Working.{Gives};
 
-use crate::forms::has_form;
+use crate::forms::has_schema_form;
 use crate::owner_fault::OwnerFault;
 use mb_tree::PartTree;
 use row_works::{Op, UpdateFault, apply_to_part, count_after};
@@ -34,7 +34,7 @@ pub(crate) fn proof_fault(
     requires { FitsPart (part_of tree.now) }
     ensures { result ≡ proof_fault index table.now op.now (part_of tree.now) }
 {
-    if !has_form(&table.schema, tree) {
+    if !has_schema_form(&table.schema, tree) {
         return Some(OwnerFault::ProofForm { index });
     }
     let want = table.root;

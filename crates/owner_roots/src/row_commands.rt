@@ -11,7 +11,7 @@ ghost use Rattle.owner_roots.specs.Seen.{table_with};
 ghost use Rattle.owner_roots.specs.Working.{FitCatalog, Gives, IsReady};
 
 use crate::owner_fault::OwnerFault;
-use crate::places::place_of;
+use crate::places::table_number;
 use crate::root_changes::{RootAfter, root_after};
 use mb_tree::PartTree;
 use row_works::operation;
@@ -66,7 +66,7 @@ pub(crate) fn change_rows(
         (rows_changed index command.now (map part_of trees.now) tables.old.items) }
     ensures within { OnOk result (FitCatalog tables.new.items) }
 {
-    let place = place_of(tables.as_slice(), command_name(command));
+    let place = table_number(tables.as_slice(), command_name(command));
     if place >= tables.len() {
         return Ok(());
     }

@@ -16,7 +16,7 @@ use Rattle.owner_session.specs.declared.stop.SessionReport.{SessionReport}
 use Rattle.owner_session.specs.declared.stop.SessionStop.{SessionStop}
 use Rattle.owner_session.specs.declared.stop.SessionStop.TheVariants as stop
 use Rattle.owner_session.specs.Endings.{OwnerRefuses, Reports, StopsWith, version_line}
-use Rattle.owner_session.specs.Work.{Forms, Judgement, Makes, Refuses, StepsTo, Steps, Appends, Says, Work, Input, installation, proposal, publication, commit, step, batch_commit, commits, catch_up, session_on}
+use Rattle.owner_session.specs.SessionWork.{Forms, Judgement, Makes, Refuses, StepsTo, Steps, Appends, Says, SessionWork, Input, installation, proposal, publication, commit, step, batch_commit, commits, catch_up, session_on}
 use Rattle.owner_session.specs.Runs.{Snapshot, Piece, Reaches, Fails, Runs, RunsOnWire, RunsTo, TakesStep, PutsLine, snapshot_of, input_of, continuation, continuation_with}
 use Rattle.owner_session.proofs.DeedLaws.{added-nil}
 use Rattle.owner_session.proofs.RunLaws.{reaches-then, reaches-in, reaches-here, reaches-as, fails-then, fails-in, fails-as, fails-kept, runs-then, runs-kept, wants-here}
@@ -58,7 +58,7 @@ to-fails {S} {B} {E} {G} IsJudgement K first given in_it work rest why before wi
 -- Publishing.
 
 -- a line that is said before the rest
-abbrev pub says_first : {S B E : Type 0} → List ℕ → Piece S B E (Input S E → Work S B E)
+abbrev pub says_first : {S B E : Type 0} → List ℕ → Piece S B E (Input S E → SessionWork S B E)
 says_first line input go = behind (Does (Says line) ∷ []) (go input)
 
 said : {S B E : Type 0} (IsJudgement : S → B → List ℕ → Judgement S E → Type 0) (line : List ℕ) (result : Result (Unit {0}) SessionStop)
@@ -80,7 +80,7 @@ said {S} {B} {E} IsJudgement line (Err stop.OutputFault) wire written later stat
   deeds = [];
   are_judgements = tt;
   leads = record { state = refl; entries = sym (append-nil entries) };
-  halts = λ (more : List (Judgement S E)) (go : Input S E → Work S B E).
+  halts = λ (more : List (Judgement S E)) (go : Input S E → SessionWork S B E).
       (inl (refl, refl), (line, h.0, (others (go (input_of (snapshot_of wire written state entries) more)).events, refl), h.1));
 }
 said {S} {B} {E} IsJudgement line (Err stop.Memory) wire written later state entries h = record {
@@ -88,13 +88,13 @@ said {S} {B} {E} IsJudgement line (Err stop.Memory) wire written later state ent
   deeds = [];
   are_judgements = tt;
   leads = record { state = refl; entries = sym (append-nil entries) };
-  halts = λ (more : List (Judgement S E)) (go : Input S E → Work S B E). (inl (refl, refl), h ∙ added-nil written);
+  halts = λ (more : List (Judgement S E)) (go : Input S E → SessionWork S B E). (inl (refl, refl), h ∙ added-nil written);
 }
 said IsJudgement line (Err (stop.Refused report)) wire written later state entries h = absurd h
 said IsJudgement line (Err stop.LinkFault) wire written later state entries h = absurd h
 said IsJudgement line (Err stop.DiskFault) wire written later state entries h = absurd h
 
-publication-is : {S B E : Type 0} (forms : Forms B E) (entry : E) (input : Input S E) (go : Input S E → Work S B E)
+publication-is : {S B E : Type 0} (forms : Forms B E) (entry : E) (input : Input S E) (go : Input S E → SessionWork S B E)
     → publication forms entry input go ≡ installation forms entry input
     (λ (rest : Input S E). behind (Does (Says (version_line (forms.version entry))) ∷ []) (go rest))
 unfolding publication
@@ -109,8 +109,8 @@ pub published : {S B E : Type 0} (IsJudgement : S → B → List ℕ → Judgeme
 published {S} {B} {E} IsJudgement forms entry version done result before mid written later state entries is f h =
     let line_is : PutsLine (version_line (forms.version entry)) result written later =
     subst (λ (v : ℕ). PutsLine (version_line v) result written later) is h in
-    to-then {H = Input S E → Work S B E} IsJudgement (λ entry. ⊥) (installation forms entry) (λ (done : Unit {0}). continuation)
-    (λ (go : Input S E → Work S B E) (rest : Input S E). behind (Does (Says (version_line (forms.version entry))) ∷ []) (go rest))
+    to-then {H = Input S E → SessionWork S B E} IsJudgement (λ entry. ⊥) (installation forms entry) (λ (done : Unit {0}). continuation)
+    (λ (go : Input S E → SessionWork S B E) (rest : Input S E). behind (Does (Says (version_line (forms.version entry))) ∷ []) (go rest))
     (publication forms entry) (λ (done : Unit {0}). continuation) done result (snapshot_of before written state entries) mid mid later state entries
     (publication-is forms entry) f
     (λ now there. (now, there, said IsJudgement (version_line (forms.version entry)) result now written later state entries line_is))
@@ -120,8 +120,8 @@ pub not_published : {S B E : Type 0} (IsJudgement : S → B → List ℕ → Jud
     → RunsOnWire IsJudgement (installation forms entry) (λ (done : Unit {0}). continuation) (Err why) (snapshot_of before written state entries) wire
     → RunsTo {T = Unit {0}} IsJudgement (λ entry. ⊥) (publication forms entry) (λ done. continuation) (Err why) (snapshot_of before written state entries) wire written state entries
 not_published {S} {B} {E} IsJudgement forms entry why before wire written state entries f =
-    to-fails {H = Input S E → Work S B E} {T = Unit {0}} IsJudgement (λ entry. ⊥) (installation forms entry) (λ (done : Unit {0}). continuation)
-    (λ (go : Input S E → Work S B E) (rest : Input S E). behind (Does (Says (version_line (forms.version entry))) ∷ []) (go rest))
+    to-fails {H = Input S E → SessionWork S B E} {T = Unit {0}} IsJudgement (λ entry. ⊥) (installation forms entry) (λ (done : Unit {0}). continuation)
+    (λ (go : Input S E → SessionWork S B E) (rest : Input S E). behind (Does (Says (version_line (forms.version entry))) ∷ []) (go rest))
     (publication forms entry) (λ (done : Unit {0}). continuation) why (snapshot_of before written state entries) wire (publication-is forms entry) f
 
 -- Appending.
@@ -138,18 +138,18 @@ last_at {E} entries entry =
 
 -- a rest that is handed something known
 runs-given : {S B E X : Type 0} (IsJudgement : S → B → List ℕ → Judgement S E → Type 0) (K : E → Type 0)
-    (work : Piece S B E (Input S E → Work S B E)) (x : X) (result : Result (Unit {0}) SessionStop) (a b : Snapshot S E)
+    (work : Piece S B E (Input S E → SessionWork S B E)) (x : X) (result : Result (Unit {0}) SessionStop) (a b : Snapshot S E)
     → Runs IsJudgement K work (λ (done : Unit {0}). continuation) result a b
-    → Runs {G = X → Input S E → Work S B E} {T = Unit {0}} IsJudgement K (λ input go. work input (go x)) (λ done. continuation_with x) result a b
+    → Runs {G = X → Input S E → SessionWork S B E} {T = Unit {0}} IsJudgement K (λ input go. work input (go x)) (λ done. continuation_with x) result a b
 runs-given {S} {B} {E} {X} IsJudgement K work x (Ok done) a b r =
-    reaches-in {H = X → Input S E → Work S B E} IsJudgement work continuation (λ (go : X → Input S E → Work S B E). go x) a b r
+    reaches-in {H = X → Input S E → SessionWork S B E} IsJudgement work continuation (λ (go : X → Input S E → SessionWork S B E). go x) a b r
 runs-given {S} {B} {E} {X} IsJudgement K work x (Err why) a b r =
-    fails-in {H = X → Input S E → Work S B E} IsJudgement K work why (λ (go : X → Input S E → Work S B E). go x) a b r
+    fails-in {H = X → Input S E → SessionWork S B E} IsJudgement K work why (λ (go : X → Input S E → SessionWork S B E). go x) a b r
 
 appended : {S B E : Type 0} (IsJudgement : S → B → List ℕ → Judgement S E → Type 0) (forms : Forms B E) (entry : E) (next : S)
     (wire : ConnectionModel) (written : Option (List ℕ)) (state new : S) (entries more : List E) → new ≡ next
     → more ≡ entries ++ entry ∷ []
-    → Reaches IsJudgement (commit forms entry next) (λ (input : Input S E) (go : S → Input S E → Work S B E). publication forms entry input (go next))
+    → Reaches IsJudgement (commit forms entry next) (λ (input : Input S E) (go : S → Input S E → SessionWork S B E). publication forms entry input (go next))
     (snapshot_of wire written state entries) (snapshot_of wire written new more)
 unfolding commit
 appended IsJudgement forms entry next wire written state new entries more is are = record {
@@ -171,7 +171,7 @@ pub committed : {S B E : Type 0} (IsJudgement : S → B → List ℕ → Judgeme
     → RunsTo IsJudgement K (commit forms entry next) (λ (done : Unit {0}). continuation_with new) result (snapshot_of before written state entries) wire later new more
 committed {S} {B} {E} IsJudgement K forms entry next result before wire written later state new entries more is are p =
     let after : Snapshot S E = snapshot_of p.0 later new more in
-    let goes : Piece S B E (S → Input S E → Work S B E) = λ input go. publication forms entry input (go next) in
+    let goes : Piece S B E (S → Input S E → SessionWork S B E) = λ input go. publication forms entry input (go next) in
     let kept : Runs IsJudgement K (publication forms entry) (λ (done : Unit {0}). continuation) result (snapshot_of before written new more) after =
     runs-kept IsJudgement (λ entry. ⊥) K (λ entry h. absurd h) (publication forms entry) (λ (done : Unit {0}). continuation) result (snapshot_of before written new more) after p.2 in
     let given : Runs {T = Unit {0}} IsJudgement K goes (λ done. continuation_with next) result (snapshot_of before written new more) after =
@@ -199,7 +199,7 @@ not_appended {S} {B} {E} IsJudgement K forms entry next before wire written stat
     deeds = [];
     are_judgements = tt;
     leads = record { state = is; entries = are ∙ sym (append-nil entries) };
-    halts = λ (ms : List (Judgement S E)) (go : S → Input S E → Work S B E). (
+    halts = λ (ms : List (Judgement S E)) (go : S → Input S E → SessionWork S B E). (
       inl (refl, refl),
       added-nil written,
       (entry, next, (others (publication forms entry (input_of (snapshot_of before written state entries) ms) (go next)).events, refl), kept),
@@ -222,7 +222,7 @@ not_committed {S} {B} {E} IsJudgement K forms entry next before wire written sta
     deeds = [];
     are_judgements = tt;
     leads = record { state = is; entries = are ∙ sym (append-nil entries) };
-    halts = λ (ms : List (Judgement S E)) (go : S → Input S E → Work S B E). (inl (refl, refl), added-nil written);
+    halts = λ (ms : List (Judgement S E)) (go : S → Input S E → SessionWork S B E). (inl (refl, refl), added-nil written);
   },
 )
 
@@ -244,7 +244,7 @@ stepped IsJudgement forms state batch proofs entry next a h = record {
 }
 
 pub step_committed : {S B E T : Type 0} (IsJudgement : S → B → List ℕ → Judgement S E → Type 0) (K : E → Type 0) (forms : Forms B E)
-    (state : S) (batch : B) (proofs : List ℕ) (entry : E) (next : S) (rest : T → Piece S B E (S → Input S E → Work S B E))
+    (state : S) (batch : B) (proofs : List ℕ) (entry : E) (next : S) (rest : T → Piece S B E (S → Input S E → SessionWork S B E))
     (result : Result T SessionStop) (before : Snapshot S E) (wire : Option ConnectionModel) (written : Option (List ℕ)) (new : S)
     (entries : List E) → IsJudgement state batch proofs (Makes entry next)
     → RunsTo IsJudgement K (commit forms entry next) rest result before wire written new entries
@@ -275,7 +275,7 @@ step_refused IsJudgement K forms state batch proofs cause lines report a h k = r
 }
 
 pub not_stepped : {S B E T U : Type 0} (IsJudgement : S → B → List ℕ → Judgement S E → Type 0) (K : E → Type 0) (forms : Forms B E)
-    (state : S) (batch : B) (proofs : List ℕ) (entry_of : U → E) (next_of : U → S) (rest : T → Piece S B E (S → Input S E → Work S B E))
+    (state : S) (batch : B) (proofs : List ℕ) (entry_of : U → E) (next_of : U → S) (rest : T → Piece S B E (S → Input S E → SessionWork S B E))
     (why : SessionStop) (before : Snapshot S E) (wire : Option ConnectionModel) → wire ≡ Some before.wire
     → TakesStep (IsJudgement state batch proofs) entry_of next_of (Err why)
     → RunsTo IsJudgement K (step forms state batch proofs) rest (Err why) before wire before.written before.state before.entries
@@ -294,14 +294,14 @@ not_stepped IsJudgement K forms state batch proofs entry_of next_of rest why bef
 
 -- Batches.
 
-batch_commit-is : {S B E : Type 0} (forms : Forms B E) (state : S) (batch : B) (input : Input S E) (go : S → Input S E → Work S B E)
+batch_commit-is : {S B E : Type 0} (forms : Forms B E) (state : S) (batch : B) (input : Input S E) (go : S → Input S E → SessionWork S B E)
     → batch_commit forms state batch input go ≡ proposal forms batch input
     (λ (proofs : List ℕ) (rest : Input S E). step forms state batch proofs rest go)
 unfolding batch_commit
 batch_commit-is forms state batch input go = refl
 
 pub batch_committed : {S B E T : Type 0} (IsJudgement : S → B → List ℕ → Judgement S E → Type 0) (K : E → Type 0) (forms : Forms B E)
-    (batch : B) (proofs : Vec ℕ) (bytes : List ℕ) (rest : T → Piece S B E (S → Input S E → Work S B E)) (result : Result T SessionStop)
+    (batch : B) (proofs : Vec ℕ) (bytes : List ℕ) (rest : T → Piece S B E (S → Input S E → SessionWork S B E)) (result : Result T SessionStop)
     (before : Snapshot S E) (mid wire : Option ConnectionModel) (written : Option (List ℕ)) (new : S) (entries : List E)
     → bytes ≡ proofs.items
     → RunsOnWire IsJudgement (proposal forms batch) (λ (given : Vec ℕ). continuation_with given.items) (Ok proofs) before mid
@@ -309,18 +309,18 @@ pub batch_committed : {S B E T : Type 0} (IsJudgement : S → B → List ℕ →
     → RunsTo IsJudgement K (step forms before.state batch bytes) rest result (on_wire now before) wire written new entries)
     → RunsTo IsJudgement K (batch_commit forms before.state batch) rest result before wire written new entries
 batch_committed {S} {B} {E} IsJudgement K forms batch proofs bytes rest result before mid wire written new entries same f s =
-    to-then {H = List ℕ → Input S E → Work S B E} IsJudgement K (proposal forms batch) (λ (given : Vec ℕ). continuation_with given.items)
-    (λ (go : S → Input S E → Work S B E) (proofs : List ℕ) (rest : Input S E). step forms before.state batch proofs rest go)
+    to-then {H = List ℕ → Input S E → SessionWork S B E} IsJudgement K (proposal forms batch) (λ (given : Vec ℕ). continuation_with given.items)
+    (λ (go : S → Input S E → SessionWork S B E) (proofs : List ℕ) (rest : Input S E). step forms before.state batch proofs rest go)
     (batch_commit forms before.state batch) rest proofs result before mid wire written new entries (batch_commit-is forms before.state batch) f
     (λ now there. subst (λ (b : List ℕ). RunsTo IsJudgement K (step forms before.state batch b) rest result (on_wire now before) wire written new entries) same (s now there))
 
 pub batch_not_proposed : {S B E T : Type 0} (IsJudgement : S → B → List ℕ → Judgement S E → Type 0) (K : E → Type 0) (forms : Forms B E)
-    (batch : B) (rest : T → Piece S B E (S → Input S E → Work S B E)) (why : SessionStop) (before : Snapshot S E) (wire : Option ConnectionModel)
+    (batch : B) (rest : T → Piece S B E (S → Input S E → SessionWork S B E)) (why : SessionStop) (before : Snapshot S E) (wire : Option ConnectionModel)
     → RunsOnWire IsJudgement (proposal forms batch) (λ (given : Vec ℕ). continuation_with given.items) (Err why) before wire
     → RunsTo IsJudgement K (batch_commit forms before.state batch) rest (Err why) before wire before.written before.state before.entries
 batch_not_proposed {S} {B} {E} IsJudgement K forms batch rest why before wire f =
-    to-fails {H = List ℕ → Input S E → Work S B E} IsJudgement K (proposal forms batch) (λ (given : Vec ℕ). continuation_with given.items)
-    (λ (go : S → Input S E → Work S B E) (proofs : List ℕ) (rest : Input S E). step forms before.state batch proofs rest go)
+    to-fails {H = List ℕ → Input S E → SessionWork S B E} IsJudgement K (proposal forms batch) (λ (given : Vec ℕ). continuation_with given.items)
+    (λ (go : S → Input S E → SessionWork S B E) (proofs : List ℕ) (rest : Input S E). step forms before.state batch proofs rest go)
     (batch_commit forms before.state batch) rest why before wire (batch_commit-is forms before.state batch) f
 
 -- a step that the owner refused
@@ -360,13 +360,13 @@ committed_none IsJudgement forms batches wire written state entries before is = 
 )
 
 commits-is : {S B E : Type 0} (forms : Forms B E) (state : S) (batch : B) (batches : List B) (input : Input S E)
-    (go : Input S E → Work S B E) → commits forms state (batch ∷ batches) input go
+    (go : Input S E → SessionWork S B E) → commits forms state (batch ∷ batches) input go
     ≡ batch_commit forms state batch input (λ (next : S) (rest : Input S E). commits forms next batches rest go)
 unfolding commits
 commits-is forms state batch batches input go = refl
 
 commits-next : {S B E : Type 0} (forms : Forms B E) (state : S) (batches : List B) (i : ℕ) (batch : B) (input : Input S E)
-    (go : Input S E → Work S B E) → i < length batches → batch ≡ get_or batches i batch
+    (go : Input S E → SessionWork S B E) → i < length batches → batch ≡ get_or batches i batch
     → commits forms state (drop i batches) input go
     ≡ batch_commit forms state batch input (λ (next : S) (rest : Input S E). commits forms next (drop (i + 1) batches) rest go)
 commits-next {S} {B} {E} forms state batches i batch input go within is =
@@ -399,8 +399,8 @@ committed_more {S} {B} {E} IsJudgement K forms batches i batch done wire now end
       r.0,
       r.1,
       reaches-then IsJudgement (commits forms state batches) (commits forms new (drop i batches)) (commits forms newer (drop (i + 1) batches)) a b c so_far.2
-          (reaches-as {H = S → Input S E → Work S B E} IsJudgement (batch_commit forms new batch) (continuation_with newer)
-          (λ (go : Input S E → Work S B E) (next : S) (rest : Input S E). commits forms next (drop (i + 1) batches) rest go)
+          (reaches-as {H = S → Input S E → SessionWork S B E} IsJudgement (batch_commit forms new batch) (continuation_with newer)
+          (λ (go : Input S E → SessionWork S B E) (next : S) (rest : Input S E). commits forms next (drop (i + 1) batches) rest go)
           (commits forms new (drop i batches)) b c (λ input go. commits-next forms new batches i batch input go within is) r.2),
     )
 
@@ -422,13 +422,13 @@ commit_stops {S} {B} {E} IsJudgement K L weaker forms batches i batch why wire n
       r.0,
       r.1,
       fails-then IsJudgement L (commits forms state batches) (commits forms new (drop i batches)) why a b c so_far.2
-          (fails-as {H = S → Input S E → Work S B E} IsJudgement L (batch_commit forms new batch) why
-          (λ (go : Input S E → Work S B E) (next : S) (rest : Input S E). commits forms next (drop (i + 1) batches) rest go)
+          (fails-as {H = S → Input S E → SessionWork S B E} IsJudgement L (batch_commit forms new batch) why
+          (λ (go : Input S E → SessionWork S B E) (next : S) (rest : Input S E). commits forms next (drop (i + 1) batches) rest go)
           (commits forms new (drop i batches)) b c (λ input go. commits-next forms new batches i batch input go within is)
           (fails-kept IsJudgement K L weaker (batch_commit forms new batch) why b c r.2)),
     )
 
-commits-none : {S B E : Type 0} (forms : Forms B E) (state : S) (input : Input S E) (go : Input S E → Work S B E)
+commits-none : {S B E : Type 0} (forms : Forms B E) (state : S) (input : Input S E) (go : Input S E → SessionWork S B E)
     → commits forms state [] input go ≡ go input
 unfolding commits
 commits-none forms state input go = refl
@@ -448,7 +448,7 @@ committed_all {S} {B} {E} IsJudgement K forms batches i done wire now written la
       so_far.1,
       reaches-then IsJudgement (commits forms state batches) (commits forms new (drop i batches)) continuation a b b so_far.2
           (reaches-here IsJudgement (commits forms new (drop i batches)) continuation b
-          (λ (input : Input S E) (go : Input S E → Work S B E).
+          (λ (input : Input S E) (go : Input S E → SessionWork S B E).
           ap (λ (bs : List B). commits forms new bs input go) (drop_all i batches all) ∙ commits-none forms new input go)),
     )
 
@@ -466,7 +466,7 @@ committed_stays IsJudgement forms batches i wire now written later state new ent
 -- The whole session.
 
 session_on-is : {S B E : Type 0} (forms : Forms B E) (state : S) (entries : List E) (batches : List B) (input : Input S E)
-    (go : Input S E → Work S B E) → session_on forms state entries batches input go ≡ catch_up forms entries input
+    (go : Input S E → SessionWork S B E) → session_on forms state entries batches input go ≡ catch_up forms entries input
     (λ (rest : Input S E). commits forms state batches rest go)
 unfolding session_on
 session_on-is forms state entries batches input go = refl
@@ -479,8 +479,8 @@ pub session_done : {S B E : Type 0} (IsJudgement : S → B → List ℕ → Judg
     → RunsTo IsJudgement K (commits forms before.state batches) (λ (done : Unit {0}). continuation) result (on_wire now before) wire written new more)
     → RunsTo IsJudgement K (session_on forms before.state before.entries batches) (λ (done : Unit {0}). continuation) result before wire written new more
 session_done {S} {B} {E} IsJudgement K forms batches done result before mid wire written new more f s =
-    to-then {H = Input S E → Work S B E} IsJudgement K (catch_up forms before.entries) (λ (done : Unit {0}). continuation)
-    (λ (go : Input S E → Work S B E) (rest : Input S E). commits forms before.state batches rest go)
+    to-then {H = Input S E → SessionWork S B E} IsJudgement K (catch_up forms before.entries) (λ (done : Unit {0}). continuation)
+    (λ (go : Input S E → SessionWork S B E) (rest : Input S E). commits forms before.state batches rest go)
     (session_on forms before.state before.entries batches) (λ (done : Unit {0}). continuation) done result before mid wire written new more
     (session_on-is forms before.state before.entries batches) f s
 
@@ -490,7 +490,7 @@ pub session_not_begun : {S B E : Type 0} (IsJudgement : S → B → List ℕ →
     → RunsTo {T = Unit {0}} IsJudgement K (session_on forms before.state before.entries batches) (λ done. continuation) (Err why) before wire
     before.written before.state before.entries
 session_not_begun {S} {B} {E} IsJudgement K forms batches why before wire f =
-    to-fails {H = Input S E → Work S B E} {T = Unit {0}} IsJudgement K (catch_up forms before.entries) (λ (done : Unit {0}). continuation)
-    (λ (go : Input S E → Work S B E) (rest : Input S E). commits forms before.state batches rest go)
+    to-fails {H = Input S E → SessionWork S B E} {T = Unit {0}} IsJudgement K (catch_up forms before.entries) (λ (done : Unit {0}). continuation)
+    (λ (go : Input S E → SessionWork S B E) (rest : Input S E). commits forms before.state batches rest go)
     (session_on forms before.state before.entries batches) (λ (done : Unit {0}). continuation) why before wire
     (session_on-is forms before.state before.entries batches) f

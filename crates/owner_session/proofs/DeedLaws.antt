@@ -2,7 +2,7 @@
 use Rattle.std.proofs.Common.{◌≡◌, ℕ, List, [], ◌∷◌, ◌++◌, Option, Some, None, refl, sym, ap, ◌∙◌, append_assoc, append-nil}
 use Rattle.outside.specs.Sink.{append_known}
 use Rattle.link_frames.specs.Scripts.{Event, Puts, Takes, Does, behind, others}
-use Rattle.owner_session.specs.Work.{Judgement, Deed, Steps, Appends, Says, Work}
+use Rattle.owner_session.specs.SessionWork.{Judgement, Deed, Steps, Appends, Says, SessionWork}
 use Rattle.owner_session.specs.Runs.{Snapshot, LeadsTo, AreJudgements, IsNext, HasWritten, lines_of, entries_of, state_after}
 
 lines_of-append : {S B E : Type 0} (ds es : List (Deed S B E)) → lines_of (ds ++ es) ≡ lines_of ds ++ lines_of es
@@ -71,7 +71,7 @@ others-append {X} (Does x ∷ es) fs = ap (λ (xs : List X). x ∷ xs) (others-a
 
 -- the deed that is next in the rest of some work is next in the whole of it
 pub next-behind : {S B E : Type 0} (deed : Deed S B E) (events : List (Event (Deed S B E))) (ds es : List (Deed S B E))
-    (work : Work S B E) → ds ≡ others events → IsNext deed es work → IsNext deed (ds ++ es) (behind events work)
+    (work : SessionWork S B E) → ds ≡ others events → IsNext deed es work → IsNext deed (ds ++ es) (behind events work)
 next-behind {S} {B} {E} deed events ds es work are h = (
   h.0,
   others-append events work.events

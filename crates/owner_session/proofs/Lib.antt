@@ -1,7 +1,7 @@
 pub mod DeedLaws
 pub mod StoppingLaws
 pub mod RunLaws
-pub mod TradeLaws
+pub mod ExchangeLaws
 pub mod WireLaws
 pub mod CommitLaws
 pub mod SessionLaws

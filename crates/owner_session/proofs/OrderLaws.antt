@@ -14,7 +14,7 @@ use Rattle.owner_session.specs.declared.place.Place.{Place}
 use Rattle.owner_session.specs.declared.place.Place.TheVariants.{Holds, Elsewhere, NoStanding}
 use Rattle.owner_session.specs.declared.refusals.RefusalCause.{RefusalCause}
 use Rattle.owner_session.specs.Endings.{Done, StandsElsewhere, version_line}
-use Rattle.owner_session.specs.Work.{Forms, Judgement, Makes, Refuses, Deed, Steps, Appends, Says, Work, Input, AnswerBody, Body, NoBody, answer_of, with_answer, with_place, with_judgement, with_first_judgement, input_after, ends_with, exchange, installation, proposal, standing, delivery, deliveries, catch_up, publication, commit, step, batch_commit, commits, session_on, session}
+use Rattle.owner_session.specs.SessionWork.{Forms, Judgement, Makes, Refuses, Deed, Steps, Appends, Says, SessionWork, Input, AnswerBody, Body, NoBody, answer_of, with_answer, with_place, with_judgement, with_first_judgement, input_after, ends_with, exchange, installation, proposal, standing, delivery, deliveries, catch_up, publication, commit, step, batch_commit, commits, session_on, session}
 use Rattle.owner_session.specs.Requests.{Request, AsksStanding, Proposes, Installs, request_bytes, IsRequestOf}
 use Rattle.owner_session.specs.Orders.{Alternates, InstallsOneOf, KeepsFirst, StepsFirst}
 
@@ -47,31 +47,31 @@ pub record IsCarried {S B E : Type 0} (forms : Forms B E) (batches : List B)
 
 module _ {S B E : Type 0} (forms : Forms B E) (asked : List B)
     (P : S → List E → List (Event (Deed S B E)) → Type 0) (c : IsCarried forms asked P) where
-  answer_carries : (s : S) (es : List E) (answer : AnswerBody) (input : Input S E) (go : List ℕ → Input S E → Work S B E)
+  answer_carries : (s : S) (es : List E) (answer : AnswerBody) (input : Input S E) (go : List ℕ → Input S E → SessionWork S B E)
       → ((body : List ℕ) (rest : Input S E) → P s es (go body rest).events) → P s es (with_answer answer input go).events
   answer_carries s es (Body body) input go h = h body input
   answer_carries s es (NoBody ending) input go h = c.ends s es
 
   exchange_carries : (s : S) (es : List E) (request : Request B E) (kind : FrameKind)
-      (body : List ℕ) (awaits : Awaits) (input : Input S E) (go : List ℕ → Input S E → Work S B E)
+      (body : List ℕ) (awaits : Awaits) (input : Input S E) (go : List ℕ → Input S E → SessionWork S B E)
       → request_bytes forms request ≡ frame_bytes kind body → IsRequestOf asked es request
       → ((body : List ℕ) (rest : Input S E) → P s es (go body rest).events)
       → P s es (exchange kind body awaits input go).events
   unfolding exchange
   exchange_carries s es request kind body awaits input go is one h =
       let first = first_frame awaits input.coming in
-      let later : Work S B E =
+      let later : SessionWork S B E =
       with_answer (answer_of first) (input_after (span first) input) go in
       subst (λ (frame : List ℕ). P s es (Puts frame ∷ Takes (span first) ∷ later.events)) is
       (c.exchanges s es request (span first) later.events one
       (answer_carries s es (answer_of first) (input_after (span first) input) go h))
 
-  same_carries : (s : S) (es : List E) (same : Bool) (work : Work S B E) → P s es work.events
+  same_carries : (s : S) (es : List E) (same : Bool) (work : SessionWork S B E) → P s es work.events
       → P s es (if same then work else ends_with StandsElsewhere).events
   same_carries s es true work h = h
   same_carries s es false work h = c.ends s es
 
-  installation_carries : (s : S) (es : List E) (entry : E) (input : Input S E) (go : Input S E → Work S B E) → Contains es entry
+  installation_carries : (s : S) (es : List E) (entry : E) (input : Input S E) (go : Input S E → SessionWork S B E) → Contains es entry
       → ((rest : Input S E) → P s es (go rest).events) → P s es (installation forms entry input go).events
   unfolding installation
   installation_carries s es entry input go has h =
@@ -82,7 +82,7 @@ module _ {S B E : Type 0} (forms : Forms B E) (asked : List B)
       (λ body rest. same_carries s es (bytes_eq body (u64_bytes (forms.version entry))) (go rest) (h rest))
 
   proposal_carries : (s : S) (es : List E) (batch : B) (input : Input S E)
-      (go : List ℕ → Input S E → Work S B E) → Contains asked batch
+      (go : List ℕ → Input S E → SessionWork S B E) → Contains asked batch
       → ((body : List ℕ) (rest : Input S E) → P s es (go body rest).events)
       → P s es (proposal forms batch input go).events
   unfolding proposal
@@ -91,7 +91,7 @@ module _ {S B E : Type 0} (forms : Forms B E) (asked : List B)
       awaits.Proofs input go refl has h
 
   delivery_carries : (s : S) (es : List E) (i : ℕ) (entry : E) (input : Input S E)
-      (go : Input S E → Work S B E) → Contains es entry → Contains asked (forms.batch entry)
+      (go : Input S E → SessionWork S B E) → Contains es entry → Contains asked (forms.batch entry)
       → ((rest : Input S E) → P s es (go rest).events) → P s es (delivery forms i entry input go).events
   unfolding delivery
   delivery_carries s es zero entry input go has old h =
@@ -101,7 +101,7 @@ module _ {S B E : Type 0} (forms : Forms B E) (asked : List B)
       (λ (proofs : List ℕ) (rest : Input S E). installation forms entry rest go) old
       (λ proofs rest. installation_carries s es entry rest go has h)
 
-  deliveries_carry : (s : S) (es : List E) (i : ℕ) (given : List E) (input : Input S E) (go : Input S E → Work S B E)
+  deliveries_carry : (s : S) (es : List E) (i : ℕ) (given : List E) (input : Input S E) (go : Input S E → SessionWork S B E)
       → ((entry : E) → Contains given entry → Contains es entry)
       → ((entry : E) → Contains es entry → Contains asked (forms.batch entry))
       → ((rest : Input S E) → P s es (go rest).events) → P s es (deliveries forms i given input go).events
@@ -116,13 +116,13 @@ module _ {S B E : Type 0} (forms : Forms B E) (asked : List B)
       (λ rest. deliveries_carry s es (suc i) given rest go
       (λ other has. all other (Contains-append_right (entry ∷ []) given other has)) old h)
 
-  place_carries : (s : S) (es : List E) (place : Place) (body : List ℕ) (input : Input S E) (go : ℕ → Input S E → Work S B E)
+  place_carries : (s : S) (es : List E) (place : Place) (body : List ℕ) (input : Input S E) (go : ℕ → Input S E → SessionWork S B E)
       → ((count : ℕ) (rest : Input S E) → P s es (go count rest).events) → P s es (with_place place body input go).events
   place_carries s es (Holds count) body input go h = h count input
   place_carries s es Elsewhere body input go h = c.ends s es
   place_carries s es NoStanding body input go h = c.ends s es
 
-  standing_carries : (s : S) (es : List E) (input : Input S E) (go : ℕ → Input S E → Work S B E)
+  standing_carries : (s : S) (es : List E) (input : Input S E) (go : ℕ → Input S E → SessionWork S B E)
       → ((count : ℕ) (rest : Input S E) → P s es (go count rest).events) → P s es (standing forms es input go).events
   unfolding standing
   standing_carries s es input go h =
@@ -135,7 +135,7 @@ module _ {S B E : Type 0} (forms : Forms B E) (asked : List B)
   dropped_has es n entry has =
       subst (λ (xs : List E). Contains xs entry) (take-append-drop n es) (Contains-append_right (take n es) (drop n es) entry has)
 
-  catch_up_carries : (s : S) (es : List E) (input : Input S E) (go : Input S E → Work S B E)
+  catch_up_carries : (s : S) (es : List E) (input : Input S E) (go : Input S E → SessionWork S B E)
       → ((entry : E) → Contains es entry → Contains asked (forms.batch entry))
       → ((rest : Input S E) → P s es (go rest).events) → P s es (catch_up forms es input go).events
   unfolding catch_up
@@ -144,7 +144,7 @@ module _ {S B E : Type 0} (forms : Forms B E) (asked : List B)
       (λ count rest. deliveries_carry s es count (drop count es) rest go
       (λ entry has. dropped_has es count entry has) old h)
 
-  publication_carries : (s : S) (es : List E) (entry : E) (input : Input S E) (go : Input S E → Work S B E) → Contains es entry
+  publication_carries : (s : S) (es : List E) (entry : E) (input : Input S E) (go : Input S E → SessionWork S B E) → Contains es entry
       → ((rest : Input S E) → P s es (go rest).events) → P s es (publication forms entry input go).events
   unfolding publication
   publication_carries s es entry input go has h =
@@ -153,7 +153,7 @@ module _ {S B E : Type 0} (forms : Forms B E) (asked : List B)
       (λ rest. c.says s es (version_line (forms.version entry)) (go rest).events (h rest))
 
   judgement_carries : (s : S) (es : List E) (batch : B) (proofs : List ℕ) (judgement : Judgement S E) (input : Input S E)
-      (go : S → Input S E → Work S B E)
+      (go : S → Input S E → SessionWork S B E)
       → ((next : S) (more : List E) (rest : Input S E) → P next more (go next rest).events)
       → P s es (Does (Steps s batch proofs judgement) ∷ (with_judgement forms judgement input go).events)
   unfolding commit
@@ -163,7 +163,7 @@ module _ {S B E : Type 0} (forms : Forms B E) (asked : List B)
   judgement_carries s es batch proofs (Refuses cause lines) input go h = c.refusals s es batch proofs cause lines
 
   first_carries : (s : S) (es : List E) (batch : B) (proofs coming : List ℕ) (judgements : List (Judgement S E))
-      (go : S → Input S E → Work S B E)
+      (go : S → Input S E → SessionWork S B E)
       → ((next : S) (more : List E) (rest : Input S E) → P next more (go next rest).events)
       → P s es (with_first_judgement forms s batch proofs coming judgements go).events
   first_carries s es batch proofs coming [] go h = c.ends s es
@@ -171,7 +171,7 @@ module _ {S B E : Type 0} (forms : Forms B E) (asked : List B)
       judgement_carries s es batch proofs judgement (record { coming = coming; judgements = left }) go h
 
   batch_carries : (s : S) (es : List E) (batch : B) (input : Input S E)
-      (go : S → Input S E → Work S B E) → Contains asked batch
+      (go : S → Input S E → SessionWork S B E) → Contains asked batch
       → ((next : S) (more : List E) (rest : Input S E) → P next more (go next rest).events)
       → P s es (batch_commit forms s batch input go).events
   unfolding batch_commit step
@@ -181,7 +181,7 @@ module _ {S B E : Type 0} (forms : Forms B E) (asked : List B)
       (λ proofs rest. first_carries s es batch proofs rest.coming rest.judgements go h)
 
   commits_carry : (s : S) (es : List E) (batches : List B) (input : Input S E)
-      (go : Input S E → Work S B E)
+      (go : Input S E → SessionWork S B E)
       → ((batch : B) → Contains batches batch → Contains asked batch)
       → ((next : S) (more : List E) (rest : Input S E) → P next more (go rest).events)
       → P s es (commits forms s batches input go).events
@@ -200,7 +200,7 @@ module _ {S B E : Type 0} (forms : Forms B E) (asked : List B)
       → P s es (session forms s es batches input).events
   unfolding session session_on
   pieces_carry s es batches input old all =
-      let finish : Input S E → Work S B E = λ end. ends_with Done in
+      let finish : Input S E → SessionWork S B E = λ end. ends_with Done in
       catch_up_carries s es input (λ (rest : Input S E). commits forms s batches rest finish) old
       (λ rest. commits_carry s es batches rest finish all (λ next more end. c.ends next more))
 

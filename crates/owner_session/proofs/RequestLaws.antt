@@ -5,7 +5,7 @@ use Rattle.std.proofs.Math.Seq.{take-append-add}
 use Rattle.outside.specs.ConnectionModel.{ConnectionModel, take_from, send_on}
 use Rattle.link_frames.specs.Scripts.{Event, Puts, Takes, Does, IsDone, Stops}
 use Rattle.link_frames.proofs.ScriptLaws.{stops-append}
-use Rattle.owner_session.specs.Work.{Forms, Judgement, Makes, Refuses, Deed, Steps, Appends, Says, Work, Input, session}
+use Rattle.owner_session.specs.SessionWork.{Forms, Judgement, Makes, Refuses, Deed, Steps, Appends, Says, SessionWork, Input, session}
 use Rattle.owner_session.specs.Runs.{Snapshot, entries_of, input_of}
 use Rattle.owner_session.specs.Sessions.{SessionEnds, SessionRuns}
 use Rattle.owner_session.specs.Requests.{Request, AsksStanding, Proposes, Installs, request_bytes, IsRequestOf, PutsRequests}
@@ -161,7 +161,7 @@ puts_requests_done forms state entries batches input deeds before after done =
     (stops_done (session forms state entries batches input).events deeds before after done)
 
 -- However work ended, its events stopped somewhere.
-ended_stops : {S B E : Type 0} (work : Work S B E) (L D O K : Type 0) (W : E → Type 0)
+ended_stops : {S B E : Type 0} (work : SessionWork S B E) (L D O K : Type 0) (W : E → Type 0)
     (status : ℕ) (deeds : List (Deed S B E)) (a b : Snapshot S E)
     → SessionEnds work L D O K W status deeds a b → Stops work.events deeds a.wire b.wire
 ended_stops work L D O K W status deeds a b (inl h) =
@@ -180,7 +180,7 @@ pub session_puts : {S B E : Type 0} {forms : Forms B E}
     → PutsRequests forms (map forms.batch a.entries ++ batches) b.entries a.wire b.wire
 session_puts {S} {B} {E} {forms} {batches = batches} {L} {D} {O} {K} {W} {status} {a} {b} run =
     let input : Input S E = input_of a run.judgements in
-    let work : Work S B E = session forms a.state a.entries batches input in
+    let work : SessionWork S B E = session forms a.state a.entries batches input in
     subst (λ (es : List E).
     PutsRequests forms (map forms.batch a.entries ++ batches) es a.wire b.wire)
     (sym run.leads.entries)

@@ -8,7 +8,7 @@ use Rattle.owner_session.specs.declared.stop.SessionStop.{SessionStop}
 use Rattle.owner_session.specs.declared.stop.SessionStop.TheVariants as stop
 use Rattle.owner_session.specs.Faults.{CountsFaults}
 use Rattle.owner_session.specs.Endings.{Ending, StopsWith, IsOfLink}
-use Rattle.owner_session.specs.Work.{Judgement, Deed, Appends, Says, Work, Input, ends_with}
+use Rattle.owner_session.specs.SessionWork.{Judgement, Deed, Appends, Says, SessionWork, Input, ends_with}
 use Rattle.owner_session.specs.Runs.{Snapshot, Piece, Reaches, Fails, Halts, Runs, input_of}
 use Rattle.owner_session.proofs.StoppingLaws.{on_link-append}
 use Rattle.owner_session.proofs.DeedLaws.{judgements-append, leads-append, leads-nothing, wrote-append, added-nil, next-behind}
@@ -31,7 +31,7 @@ reaches-then {S} {B} {E} {G} IsJudgement work mid rest a b c f s = record {
 
 halts-behind : {S B E G : Type 0} (IsJudgement : S → B → List ℕ → Judgement S E → Type 0) (Kept : E → Type 0)
     (work mid : Piece S B E G) (a b c : Snapshot S E) (f : Reaches IsJudgement work mid a b) (es : List (Deed S B E))
-    (rest : Work S B E) (why : SessionStop) → Halts Kept rest why es b c
+    (rest : SessionWork S B E) (why : SessionStop) → Halts Kept rest why es b c
     → Halts Kept (behind f.events rest) why (f.deeds ++ es) a c
 halts-behind IsJudgement Kept work mid a b c f es rest (stop.Refused report) h = (
   h.0,
@@ -77,7 +77,7 @@ fails-then {S} {B} {E} {G} IsJudgement Kept work mid why a b c f s = record {
   halts = λ (more : List (Judgement S E)) (go : G).
       let is : work (input_of a ((f.judgements ++ s.judgements) ++ more)) go ≡ behind f.events (mid (input_of b (s.judgements ++ more)) go) =
       ap (λ (ms : List (Judgement S E)). work (input_of a ms) go) (append_assoc f.judgements s.judgements more) ∙ f.goes_on (s.judgements ++ more) go in
-      subst (λ (w : Work S B E). Halts Kept w why (f.deeds ++ s.deeds) a c) (sym is)
+      subst (λ (w : SessionWork S B E). Halts Kept w why (f.deeds ++ s.deeds) a c) (sym is)
       (halts-behind IsJudgement Kept work mid a b c f s.deeds (mid (input_of b (s.judgements ++ more)) go) why (s.halts more go));
 }
 
@@ -141,12 +141,12 @@ fails-as {S} {B} {E} {G} IsJudgement Kept first why in_it work a b is f = record
   are_judgements = f.are_judgements;
   leads = f.leads;
   halts = λ (more : List (Judgement S E)) (go : G).
-      subst (λ (w : Work S B E). Halts Kept w why f.deeds a b) (sym (is (input_of a (f.judgements ++ more)) go)) (f.halts more (in_it go));
+      subst (λ (w : SessionWork S B E). Halts Kept w why f.deeds a b) (sym (is (input_of a (f.judgements ++ more)) go)) (f.halts more (in_it go));
 }
 
 -- What is kept with an entry may be weaker.
 
-halts-kept : {S B E : Type 0} (K L : E → Type 0) → ((e : E) → K e → L e) → (work : Work S B E) (why : SessionStop)
+halts-kept : {S B E : Type 0} (K L : E → Type 0) → ((e : E) → K e → L e) → (work : SessionWork S B E) (why : SessionStop)
     (deeds : List (Deed S B E)) (a b : Snapshot S E) → Halts K work why deeds a b → Halts L work why deeds a b
 halts-kept K L weaker work (stop.Refused report) deeds a b h = h
 halts-kept K L weaker work stop.LinkFault deeds a b h = h
@@ -207,7 +207,7 @@ ends-here {S} {B} {E} {G} IsJudgement Kept work ending why a is h = record {
   are_judgements = tt;
   leads = leads-nothing a;
   halts = λ (more : List (Judgement S E)) (go : G).
-      subst (λ (w : Work S B E). Halts Kept w why [] a a) (sym (is (input_of a more) go)) (ends-with B Kept ending why a h);
+      subst (λ (w : SessionWork S B E). Halts Kept w why [] a a) (sym (is (input_of a more) go)) (ends-with B Kept ending why a h);
 }
 
 -- memory ran out before anything was done

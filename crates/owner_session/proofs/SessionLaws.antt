@@ -11,7 +11,7 @@ use Rattle.owner_session.specs.declared.stop.SessionReport.{SessionReport}
 use Rattle.owner_session.specs.declared.stop.SessionStop.{SessionStop}
 use Rattle.owner_session.specs.declared.stop.SessionStop.TheVariants as stop
 use Rattle.owner_session.specs.Endings.{Ending, Done, StoreRefuses, StandsElsewhere, OwnerRefuses, BadAnswer, CutAnswer, Reports, output_of, code_of}
-use Rattle.owner_session.specs.Work.{Forms, Judgement, Deed, Work, Input, ends_with, session_on, session}
+use Rattle.owner_session.specs.SessionWork.{Forms, Judgement, Deed, SessionWork, Input, ends_with, session_on, session}
 use Rattle.owner_session.specs.Runs.{Snapshot, HasWritten, Reaches, Fails, Halts, input_of, lines_of, continuation, UnlessDisk}
 use Rattle.owner_session.specs.Sessions.{WritesLast, WritesEnding, SessionEnds, SessionRuns, SessionIsDone}
 
@@ -75,7 +75,7 @@ module _ {S B E : Type 0} (IsJudgement : S → B → List ℕ → Judgement S E 
   pub session_finishes : Reaches IsJudgement (session_on forms a.state a.entries batches) continuation a b → Kept
       → SessionRuns forms IsJudgement batches LinkRose DiskRose OutRose Kept KeptWith 0 a b
   session_finishes f kept =
-      let finished : Work S B E = record { events = f.events ++ []; value = Some Done } in
+      let finished : SessionWork S B E = record { events = f.events ++ []; value = Some Done } in
       let is : session forms a.state a.entries batches (input_of a (f.judgements ++ [])) ≡ finished =
       session-is forms a.state a.entries batches (input_of a (f.judgements ++ [])) ∙ f.goes_on [] (λ (rest : Input S E). ends_with Done) in
       record {
@@ -83,7 +83,7 @@ module _ {S B E : Type 0} (IsJudgement : S → B → List ℕ → Judgement S E 
         deeds = f.deeds;
         are_judgements = f.are_judgements;
         leads = f.leads;
-        ends = subst (λ (w : Work S B E). SessionEnds w LinkRose DiskRose OutRose Kept KeptWith 0 f.deeds a b) (sym is)
+        ends = subst (λ (w : SessionWork S B E). SessionEnds w LinkRose DiskRose OutRose Kept KeptWith 0 f.deeds a b) (sym is)
             (inl (
               kept,
               (
@@ -99,7 +99,7 @@ module _ {S B E : Type 0} (IsJudgement : S → B → List ℕ → Judgement S E 
   halted : (K : E → Type 0) (why : SessionStop) (f : Fails IsJudgement K (session_on forms a.state a.entries batches) why a b)
       → Halts K (session forms a.state a.entries batches (input_of a (f.judgements ++ []))) why f.deeds a b
   halted K why f =
-      subst (λ (w : Work S B E). Halts K w why f.deeds a b)
+      subst (λ (w : SessionWork S B E). Halts K w why f.deeds a b)
       (sym (session-is forms a.state a.entries batches (input_of a (f.judgements ++ [])))) (f.halts [] (λ (rest : Input S E). ends_with Done))
 
   runs_to : (K : E → Type 0) (why : SessionStop) (f : Fails IsJudgement K (session_on forms a.state a.entries batches) why a b)
@@ -206,7 +206,7 @@ done_alone (CutAnswer got) P deeds a b h =
     absurd (no_output_0 (output_of (CutAnswer got)) P (append_known a.written (lines_of deeds)) b.written (λ is. cc is) h)
 
 -- work that ended with 0 was done
-ends_done : {S B E : Type 0} (work : Work S B E) (LinkRose DiskRose OutRose Kept : Type 0) (KeptWith : E → Type 0)
+ends_done : {S B E : Type 0} (work : SessionWork S B E) (LinkRose DiskRose OutRose Kept : Type 0) (KeptWith : E → Type 0)
     (deeds : List (Deed S B E)) (a b : Snapshot S E)
     → SessionEnds work LinkRose DiskRose OutRose Kept KeptWith 0 deeds a b
     → (work.value ≡ Some Done) × IsDone work.events deeds a.wire b.wire × HasWritten deeds [] a b
@@ -225,7 +225,7 @@ pub session_done_at_0 : {S B E : Type 0} (IsJudgement : S → B → List ℕ →
     → status ≡ 0 → SessionRuns forms IsJudgement batches LinkRose DiskRose OutRose Kept KeptWith status a b
     → SessionIsDone forms IsJudgement batches a b
 session_done_at_0 {S} {B} {E} IsJudgement forms batches L D O K W status a b zero r =
-    let work : Work S B E = session forms a.state a.entries batches (input_of a r.judgements) in
+    let work : SessionWork S B E = session forms a.state a.entries batches (input_of a r.judgements) in
     let done = ends_done work L D O K W r.deeds a b
     (subst (λ (n : ℕ). SessionEnds work L D O K W n r.deeds a b) zero r.ends) in
     record {

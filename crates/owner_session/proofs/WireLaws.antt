@@ -16,9 +16,9 @@ use Rattle.owner_session.specs.declared.place.Place.TheVariants.{Holds, Elsewher
 use Rattle.owner_session.specs.declared.stop.SessionStop.{SessionStop}
 use Rattle.owner_session.specs.declared.stop.SessionStop.TheVariants as stop
 use Rattle.owner_session.specs.Endings.{Ending, StandsElsewhere, BadAnswer}
-use Rattle.owner_session.specs.Work.{Forms, Judgement, Deed, Work, Input, AnswerBody, Body, NoBody, answer_of, with_answer, with_place, input_after, ends_with, exchange, installation, proposal, standing, delivery, deliveries, catch_up}
+use Rattle.owner_session.specs.SessionWork.{Forms, Judgement, Deed, SessionWork, Input, AnswerBody, Body, NoBody, answer_of, with_answer, with_place, input_after, ends_with, exchange, installation, proposal, standing, delivery, deliveries, catch_up}
 use Rattle.owner_session.specs.Stopping.{StopsOnLink}
-use Rattle.owner_session.specs.Runs.{Snapshot, LeadsTo, Piece, Reaches, Halts, Runs, RunsOnWire, Trades, ChecksVersion, HoldsSome, snapshot_of, input_of, continuation, continuation_with}
+use Rattle.owner_session.specs.Runs.{Snapshot, LeadsTo, Piece, Reaches, Halts, Runs, RunsOnWire, Exchanges, ChecksVersion, HoldsSome, snapshot_of, input_of, continuation, continuation_with}
 use Rattle.owner_session.proofs.DeedLaws.{added-nil}
 use Rattle.link_frames.proofs.ScriptLaws.{stands-after}
 use Rattle.link_frames.proofs.Filling.{stays_on}
@@ -34,7 +34,7 @@ leads-on-wire wire a = record { state = refl; entries = sym (append-nil a.entrie
 -- Exchanges.
 
 answered : {S B E : Type 0} (kind : FrameKind) (body : List ℕ) (awaits : Awaits) (input : Input S E)
-    (go : List ℕ → Input S E → Work S B E) (answer : AnswerBody)
+    (go : List ℕ → Input S E → SessionWork S B E) (answer : AnswerBody)
     → answer_of (first_frame awaits input.coming) ≡ answer
     → exchange kind body awaits input go
     ≡ behind (Puts (frame_bytes kind body) ∷ Takes (span (first_frame awaits input.coming)) ∷ [])
@@ -52,7 +52,7 @@ half_wire frame first before wire (inl h) = (send_on (take h.0 frame) before, h.
 half_wire frame first before wire (inr h) = (take_from h.0 (send_on frame before), h.2)
 
 half_stops : {S B E : Type 0} (kind : FrameKind) (body : List ℕ) (awaits : Awaits) (input : Input S E)
-    (go : List ℕ → Input S E → Work S B E) (before : ConnectionModel) (wire : Option ConnectionModel)
+    (go : List ℕ → Input S E → SessionWork S B E) (before : ConnectionModel) (wire : Option ConnectionModel)
     (h : IsHalfAsked (frame_bytes kind body) (first_frame awaits input.coming) before wire)
     → Stops (exchange kind body awaits input go).events [] before
     (half_wire (frame_bytes kind body) (first_frame awaits input.coming) before wire h).0
@@ -67,7 +67,7 @@ broken_wire frame first before wire (inl h) = (send_on (take h.0 frame) before, 
 broken_wire frame first before wire (inr h) = (take_from h.0 (send_on frame before), h.3)
 
 -- nothing is due behind what is no frame
-part_taken : {S B E : Type 0} (first : Coming) (input : Input S E) (go : List ℕ → Input S E → Work S B E) (n : ℕ)
+part_taken : {S B E : Type 0} (first : Coming) (input : Input S E) (go : List ℕ → Input S E → SessionWork S B E) (n : ℕ)
     → (IsFrame first → n < span first) → (with_answer (answer_of first) input go).events ≢ [] → n < span first
 part_taken (Whole kind body) input go n part due = part tt
 part_taken Ended input go n part due = absurd (due refl)
@@ -75,7 +75,7 @@ part_taken (Cut got) input go n part due = absurd (due refl)
 part_taken (Bad length taken) input go n part due = absurd (due refl)
 
 broken_stops : {S B E : Type 0} (kind : FrameKind) (body : List ℕ) (awaits : Awaits) (input : Input S E)
-    (go : List ℕ → Input S E → Work S B E) (before : ConnectionModel) (wire : Option ConnectionModel)
+    (go : List ℕ → Input S E → SessionWork S B E) (before : ConnectionModel) (wire : Option ConnectionModel)
     (h : IsBrokenOff (frame_bytes kind body) (first_frame awaits input.coming) before wire)
     → StopsOnLink (exchange kind body awaits input go).events [] before
     (broken_wire (frame_bytes kind body) (first_frame awaits input.coming) before wire h).0
@@ -101,7 +101,7 @@ broken_stops kind body awaits input go before wire (inr h) =
 half_fails : {S B E : Type 0} (IsJudgement : S → B → List ℕ → Judgement S E → Type 0) (kind : FrameKind) (body : List ℕ)
     (awaits : Awaits) (why : SessionStop) (before : Snapshot S E) (wire : Option ConnectionModel)
     (later : (w : ConnectionModel) × (wire ≡ Some w))
-    → ((more : List (Judgement S E)) (go : List ℕ → Input S E → Work S B E)
+    → ((more : List (Judgement S E)) (go : List ℕ → Input S E → SessionWork S B E)
     → Halts (λ (e : E). ⊥) (exchange kind body awaits (input_of before more) go) why [] before (on_wire later.0 before))
     → RunsOnWire IsJudgement (exchange kind body awaits) (λ (given : Vec ℕ). continuation_with given.items) (Err why) before wire
 half_fails IsJudgement kind body awaits why before wire later halts = (
@@ -119,7 +119,7 @@ half_fails IsJudgement kind body awaits why before wire later halts = (
 -- a call that did the exchange, or stopped in it
 pub traded : {S B E : Type 0} (IsJudgement : S → B → List ℕ → Judgement S E → Type 0) (kind : FrameKind) (body : List ℕ)
     (awaits : Awaits) (result : Result (Vec ℕ) SessionStop) (before : Snapshot S E) (wire : Option ConnectionModel)
-    → Trades (frame_bytes kind body) (first_frame awaits before.wire.coming) result before.wire wire
+    → Exchanges (frame_bytes kind body) (first_frame awaits before.wire.coming) result before.wire wire
     → RunsOnWire IsJudgement (exchange kind body awaits) (λ (given : Vec ℕ). continuation_with given.items) result before wire
 traded {S} {B} {E} IsJudgement kind body awaits (Ok given) before wire h =
     let n : ℕ = span (first_frame awaits before.wire.coming) in
@@ -131,7 +131,7 @@ traded {S} {B} {E} IsJudgement kind body awaits (Ok given) before wire h =
         judgements = [];
         events = events;
         deeds = [];
-        goes_on = λ (more : List (Judgement S E)) (go : List ℕ → Input S E → Work S B E).
+        goes_on = λ (more : List (Judgement S E)) (go : List ℕ → Input S E → SessionWork S B E).
             answered kind body awaits (input_of before more) go (Body given.items) h.0;
         done = record { others_are = refl; wire_is = refl };
         are_judgements = tt;
@@ -149,8 +149,8 @@ traded {S} {B} {E} IsJudgement kind body awaits (Err (stop.Refused report)) befo
         deeds = [];
         are_judgements = tt;
         leads = leads-on-wire later before;
-        halts = λ (more : List (Judgement S E)) (go : List ℕ → Input S E → Work S B E).
-            subst (λ (w : Work S B E). Halts (λ (e : E). ⊥) w (stop.Refused report) [] before (on_wire later before))
+        halts = λ (more : List (Judgement S E)) (go : List ℕ → Input S E → SessionWork S B E).
+            subst (λ (w : SessionWork S B E). Halts (λ (e : E). ⊥) w (stop.Refused report) [] before (on_wire later before))
             (sym (answered kind body awaits (input_of before more) go (NoBody h.0.0) h.0.1))
             ((h.0.0, refl, h.0.2), record { others_are = refl; wire_is = refl }, added-nil before.written);
       },
@@ -160,12 +160,12 @@ traded {S} {B} {E} IsJudgement kind body awaits (Err stop.LinkFault) before wire
     let first : Coming = first_frame awaits before.wire.coming in
     half_fails IsJudgement kind body awaits stop.LinkFault before wire
     (broken_wire frame first before.wire wire h)
-    (λ (more : List (Judgement S E)) (go : List ℕ → Input S E → Work S B E).
+    (λ (more : List (Judgement S E)) (go : List ℕ → Input S E → SessionWork S B E).
     (broken_stops kind body awaits (input_of before more) go before.wire wire h, added-nil before.written))
 traded {S} {B} {E} IsJudgement kind body awaits (Err stop.Memory) before wire h =
     let first : Coming = first_frame awaits before.wire.coming in
     half_fails IsJudgement kind body awaits stop.Memory before wire (half_wire (frame_bytes kind body) first before.wire wire h)
-    (λ (more : List (Judgement S E)) (go : List ℕ → Input S E → Work S B E).
+    (λ (more : List (Judgement S E)) (go : List ℕ → Input S E → SessionWork S B E).
     (half_stops kind body awaits (input_of before more) go before.wire wire h, added-nil before.written))
 traded IsJudgement kind body awaits (Err stop.DiskFault) before wire h = absurd h
 traded IsJudgement kind body awaits (Err stop.OutputFault) before wire h = absurd h
@@ -173,11 +173,11 @@ traded IsJudgement kind body awaits (Err stop.OutputFault) before wire h = absur
 -- the same, where the body is known by another term
 pub exchanged : {S B E : Type 0} (IsJudgement : S → B → List ℕ → Judgement S E → Type 0) (kind : FrameKind) (bytes body : List ℕ)
     (awaits : Awaits) (result : Result (Vec ℕ) SessionStop) (before : Snapshot S E) (wire : Option ConnectionModel) → bytes ≡ body
-    → Trades (frame_bytes kind bytes) (first_frame awaits before.wire.coming) result before.wire wire
+    → Exchanges (frame_bytes kind bytes) (first_frame awaits before.wire.coming) result before.wire wire
     → RunsOnWire IsJudgement (exchange kind body awaits) (λ (given : Vec ℕ). continuation_with given.items) result before wire
 exchanged IsJudgement kind bytes body awaits result before wire is h =
     traded IsJudgement kind body awaits result before wire
-    (subst (λ (b : List ℕ). Trades (frame_bytes kind b) (first_frame awaits before.wire.coming) result before.wire wire) is h)
+    (subst (λ (b : List ℕ). Exchanges (frame_bytes kind b) (first_frame awaits before.wire.coming) result before.wire wire) is h)
 
 -- a call that wanted memory before the exchange
 pub not_traded : {S B E G T : Type 0} (IsJudgement : S → B → List ℕ → Judgement S E → Type 0) (work : Piece S B E G)
@@ -216,24 +216,24 @@ wire-fails IsJudgement first given in_it work rest why before later is f =
 
 -- Installing.
 
-pub installation-is : {S B E : Type 0} (forms : Forms B E) (entry : E) (input : Input S E) (go : Input S E → Work S B E)
+pub installation-is : {S B E : Type 0} (forms : Forms B E) (entry : E) (input : Input S E) (go : Input S E → SessionWork S B E)
     → installation forms entry input go ≡ exchange kind.Install (forms.install entry) awaits.Installed input
     (λ (body : List ℕ) (rest : Input S E). if bytes_eq body (u64_bytes (forms.version entry)) then go rest else ends_with StandsElsewhere)
 unfolding installation
 installation-is forms entry input go = refl
 
 -- the work behind an answer that is to be a version
-abbrev pub version_test : {S B E : Type 0} → Bool → Piece S B E (Input S E → Work S B E)
+abbrev pub version_test : {S B E : Type 0} → Bool → Piece S B E (Input S E → SessionWork S B E)
 version_test same input go = if same then go input else ends_with StandsElsewhere
 
 checked : {S B E : Type 0} (IsJudgement : S → B → List ℕ → Judgement S E → Type 0) (same : Bool) (result : Result (Unit {0}) SessionStop)
     (now : Snapshot S E) → ChecksVersion same result → Runs IsJudgement (λ entry. ⊥) (version_test same) (λ done. continuation) result now now
 checked {S} {B} {E} IsJudgement same (Ok done) now is =
     reaches-here IsJudgement (version_test same) continuation now
-    (λ (input : Input S E) (go : Input S E → Work S B E). ap (λ (b : Bool). version_test b input go) is)
+    (λ (input : Input S E) (go : Input S E → SessionWork S B E). ap (λ (b : Bool). version_test b input go) is)
 checked {S} {B} {E} IsJudgement same (Err why) now h =
     ends-here IsJudgement (λ entry. ⊥) (version_test same) StandsElsewhere why now
-    (λ (input : Input S E) (go : Input S E → Work S B E). ap (λ (b : Bool). version_test b input go) h.0) h.1
+    (λ (input : Input S E) (go : Input S E → SessionWork S B E). ap (λ (b : Bool). version_test b input go) h.0) h.1
 
 pub version_checked : {S B E : Type 0} (IsJudgement : S → B → List ℕ → Judgement S E → Type 0) (forms : Forms B E) (entry : E)
     (answer : Vec ℕ) (bytes : List ℕ) (version : ℕ) (result : Result (Unit {0}) SessionStop) (before : Snapshot S E)
@@ -246,9 +246,9 @@ version_checked {S} {B} {E} IsJudgement forms entry answer bytes version result 
     ap (λ (b : List ℕ). bytes_eq b (u64_bytes version)) same ∙ ap (λ (v : ℕ). bytes_eq answer.items (u64_bytes v)) is in
     let checks : ChecksVersion (bytes_eq answer.items (u64_bytes (forms.version entry))) result =
     subst (λ (b : Bool). ChecksVersion b result) test h in
-    wire-then {H = List ℕ → Input S E → Work S B E} IsJudgement (exchange kind.Install (forms.install entry) awaits.Installed)
+    wire-then {H = List ℕ → Input S E → SessionWork S B E} IsJudgement (exchange kind.Install (forms.install entry) awaits.Installed)
     (λ (given : Vec ℕ). continuation_with given.items)
-    (λ (go : Input S E → Work S B E) (body : List ℕ) (rest : Input S E). if bytes_eq body (u64_bytes (forms.version entry)) then go rest else ends_with StandsElsewhere)
+    (λ (go : Input S E → SessionWork S B E) (body : List ℕ) (rest : Input S E). if bytes_eq body (u64_bytes (forms.version entry)) then go rest else ends_with StandsElsewhere)
     (installation forms entry) (λ (done : Unit {0}). continuation) answer result before mid mid (installation-is forms entry) f
     (λ now there. (now.wire, there, checked IsJudgement (bytes_eq answer.items (u64_bytes (forms.version entry))) result now checks))
 
@@ -257,14 +257,14 @@ pub not_installed : {S B E : Type 0} (IsJudgement : S → B → List ℕ → Jud
     → RunsOnWire IsJudgement (exchange kind.Install (forms.install entry) awaits.Installed) (λ (given : Vec ℕ). continuation_with given.items) (Err why) before later
     → RunsOnWire {T = Unit {0}} IsJudgement (installation forms entry) (λ done. continuation) (Err why) before later
 not_installed {S} {B} {E} IsJudgement forms entry why before later f =
-    wire-fails {H = List ℕ → Input S E → Work S B E} {T = Unit {0}} IsJudgement (exchange kind.Install (forms.install entry) awaits.Installed)
+    wire-fails {H = List ℕ → Input S E → SessionWork S B E} {T = Unit {0}} IsJudgement (exchange kind.Install (forms.install entry) awaits.Installed)
     (λ (given : Vec ℕ). continuation_with given.items)
-    (λ (go : Input S E → Work S B E) (body : List ℕ) (rest : Input S E). if bytes_eq body (u64_bytes (forms.version entry)) then go rest else ends_with StandsElsewhere)
+    (λ (go : Input S E → SessionWork S B E) (body : List ℕ) (rest : Input S E). if bytes_eq body (u64_bytes (forms.version entry)) then go rest else ends_with StandsElsewhere)
     (installation forms entry) (λ (done : Unit {0}). continuation) why before later (installation-is forms entry) f
 
 -- Standing.
 
-standing-is : {S B E : Type 0} (forms : Forms B E) (entries : List E) (input : Input S E) (go : ℕ → Input S E → Work S B E)
+standing-is : {S B E : Type 0} (forms : Forms B E) (entries : List E) (input : Input S E) (go : ℕ → Input S E → SessionWork S B E)
     → standing forms entries input go ≡ exchange kind.Status [] awaits.Standing input
     (λ (body : List ℕ) (rest : Input S E). with_place (forms.place entries body) body rest go)
 unfolding standing
@@ -272,15 +272,15 @@ standing-is forms entries input go = refl
 
 placed : {S B E : Type 0} (IsJudgement : S → B → List ℕ → Judgement S E → Type 0) (place : Place) (body : List ℕ)
     (result : Result ℕ SessionStop) (now : Snapshot S E) → HoldsSome place (length body) result
-    → Runs IsJudgement (λ entry. ⊥) (λ (input : Input S E) (go : ℕ → Input S E → Work S B E). with_place place body input go) continuation_with result now now
+    → Runs IsJudgement (λ entry. ⊥) (λ (input : Input S E) (go : ℕ → Input S E → SessionWork S B E). with_place place body input go) continuation_with result now now
 placed {S} {B} {E} IsJudgement place body (Ok count) now is =
-    reaches-here IsJudgement (λ (input : Input S E) (go : ℕ → Input S E → Work S B E). with_place place body input go) (continuation_with count) now
-    (λ (input : Input S E) (go : ℕ → Input S E → Work S B E). ap (λ (p : Place). with_place p body input go) is)
+    reaches-here IsJudgement (λ (input : Input S E) (go : ℕ → Input S E → SessionWork S B E). with_place place body input go) (continuation_with count) now
+    (λ (input : Input S E) (go : ℕ → Input S E → SessionWork S B E). ap (λ (p : Place). with_place p body input go) is)
 placed {S} {B} {E} IsJudgement Elsewhere body (Err why) now h =
-    ends-here IsJudgement (λ entry. ⊥) (λ (input : Input S E) (go : ℕ → Input S E → Work S B E). with_place Elsewhere body input go)
+    ends-here IsJudgement (λ entry. ⊥) (λ (input : Input S E) (go : ℕ → Input S E → SessionWork S B E). with_place Elsewhere body input go)
     StandsElsewhere why now (λ input go. refl) h
 placed {S} {B} {E} IsJudgement NoStanding body (Err why) now h =
-    ends-here IsJudgement (λ entry. ⊥) (λ (input : Input S E) (go : ℕ → Input S E → Work S B E). with_place NoStanding body input go)
+    ends-here IsJudgement (λ entry. ⊥) (λ (input : Input S E) (go : ℕ → Input S E → SessionWork S B E). with_place NoStanding body input go)
     (BadAnswer (length body + 1)) why now (λ input go. refl) h
 placed IsJudgement (Holds count) body (Err why) now h = absurd h
 
@@ -295,9 +295,9 @@ place_known {S} {B} {E} IsJudgement forms entries answer bytes place result befo
     let holds : HoldsSome (forms.place entries answer.items) (length answer.items) result =
     subst (λ (b : List ℕ). HoldsSome (forms.place entries answer.items) (length b) result) same
     (subst (λ (p : Place). HoldsSome p (length bytes) result) there h) in
-    wire-then {H = List ℕ → Input S E → Work S B E} IsJudgement (exchange kind.Status [] awaits.Standing)
+    wire-then {H = List ℕ → Input S E → SessionWork S B E} IsJudgement (exchange kind.Status [] awaits.Standing)
     (λ (given : Vec ℕ). continuation_with given.items)
-    (λ (go : ℕ → Input S E → Work S B E) (body : List ℕ) (rest : Input S E). with_place (forms.place entries body) body rest go)
+    (λ (go : ℕ → Input S E → SessionWork S B E) (body : List ℕ) (rest : Input S E). with_place (forms.place entries body) body rest go)
     (standing forms entries) continuation_with answer result before mid mid (standing-is forms entries) f
     (λ now there. (now.wire, there, placed IsJudgement (forms.place entries answer.items) answer.items result now holds))
 
@@ -306,14 +306,14 @@ pub no_place : {S B E : Type 0} (IsJudgement : S → B → List ℕ → Judgemen
     → RunsOnWire IsJudgement (exchange kind.Status [] awaits.Standing) (λ (given : Vec ℕ). continuation_with given.items) (Err why) before later
     → RunsOnWire IsJudgement (standing forms entries) continuation_with (Err why) before later
 no_place {S} {B} {E} IsJudgement forms entries why before later f =
-    wire-fails {H = List ℕ → Input S E → Work S B E} {T = ℕ} IsJudgement (exchange kind.Status [] awaits.Standing)
+    wire-fails {H = List ℕ → Input S E → SessionWork S B E} {T = ℕ} IsJudgement (exchange kind.Status [] awaits.Standing)
     (λ (given : Vec ℕ). continuation_with given.items)
-    (λ (go : ℕ → Input S E → Work S B E) (body : List ℕ) (rest : Input S E). with_place (forms.place entries body) body rest go)
+    (λ (go : ℕ → Input S E → SessionWork S B E) (body : List ℕ) (rest : Input S E). with_place (forms.place entries body) body rest go)
     (standing forms entries) continuation_with why before later (standing-is forms entries) f
 
 -- Proposing.
 
-proposal-is : {S B E : Type 0} (forms : Forms B E) (batch : B) (input : Input S E) (go : List ℕ → Input S E → Work S B E)
+proposal-is : {S B E : Type 0} (forms : Forms B E) (batch : B) (input : Input S E) (go : List ℕ → Input S E → SessionWork S B E)
     → proposal forms batch input go ≡ exchange kind.Propose (forms.proposal batch) awaits.Proofs input go
 unfolding proposal
 proposal-is forms batch input go = refl
@@ -321,12 +321,12 @@ proposal-is forms batch input go = refl
 pub proposed : {S B E : Type 0} (IsJudgement : S → B → List ℕ → Judgement S E → Type 0) (forms : Forms B E) (batch : B)
     (body : List ℕ) (result : Result (Vec ℕ) SessionStop) (before : Snapshot S E) (wire : Option ConnectionModel)
     → body ≡ forms.proposal batch
-    → Trades (frame_bytes kind.Propose body) (first_frame awaits.Proofs before.wire.coming) result before.wire wire
+    → Exchanges (frame_bytes kind.Propose body) (first_frame awaits.Proofs before.wire.coming) result before.wire wire
     → RunsOnWire IsJudgement (proposal forms batch) (λ (given : Vec ℕ). continuation_with given.items) result before wire
 unfolding proposal
 proposed IsJudgement forms batch body result before wire is h =
     traded IsJudgement kind.Propose (forms.proposal batch) awaits.Proofs result before wire
-    (subst (λ (b : List ℕ). Trades (frame_bytes kind.Propose b) (first_frame awaits.Proofs before.wire.coming) result before.wire wire) is h)
+    (subst (λ (b : List ℕ). Exchanges (frame_bytes kind.Propose b) (first_frame awaits.Proofs before.wire.coming) result before.wire wire) is h)
 
 -- Delivering.
 
@@ -338,7 +338,7 @@ unfolding delivery
 first_delivered {S} {B} {E} IsJudgement forms i entry result before wire is h =
     subst (λ (k : ℕ). RunsOnWire {T = Unit {0}} IsJudgement (delivery forms k entry) (λ done. continuation) result before wire) (sym is) h
 
-delivery-is : {S B E : Type 0} (forms : Forms B E) (i : ℕ) (entry : E) (input : Input S E) (go : Input S E → Work S B E)
+delivery-is : {S B E : Type 0} (forms : Forms B E) (i : ℕ) (entry : E) (input : Input S E) (go : Input S E → SessionWork S B E)
     → delivery forms (suc i) entry input go ≡ proposal forms (forms.batch entry) input
     (λ (proofs : List ℕ) (rest : Input S E). installation forms entry rest go)
 unfolding delivery
@@ -352,9 +352,9 @@ pub later_delivered : {S B E : Type 0} (IsJudgement : S → B → List ℕ → J
     → RunsOnWire IsJudgement (delivery forms i entry) (λ (done : Unit {0}). continuation) result before later
 later_delivered {S} {B} {E} IsJudgement forms i j entry proofs result before mid later is f s =
     subst (λ (k : ℕ). RunsOnWire {T = Unit {0}} IsJudgement (delivery forms k entry) (λ done. continuation) result before later) (sym is)
-    (wire-then {H = List ℕ → Input S E → Work S B E} IsJudgement (proposal forms (forms.batch entry))
+    (wire-then {H = List ℕ → Input S E → SessionWork S B E} IsJudgement (proposal forms (forms.batch entry))
     (λ (given : Vec ℕ). continuation_with given.items)
-    (λ (go : Input S E → Work S B E) (proofs : List ℕ) (rest : Input S E). installation forms entry rest go)
+    (λ (go : Input S E → SessionWork S B E) (proofs : List ℕ) (rest : Input S E). installation forms entry rest go)
     (delivery forms (suc j) entry) (λ (done : Unit {0}). continuation) proofs result before mid later (delivery-is forms j entry) f s)
 
 pub not_delivered : {S B E : Type 0} (IsJudgement : S → B → List ℕ → Judgement S E → Type 0) (forms : Forms B E) (i j : ℕ)
@@ -363,9 +363,9 @@ pub not_delivered : {S B E : Type 0} (IsJudgement : S → B → List ℕ → Jud
     → RunsOnWire {T = Unit {0}} IsJudgement (delivery forms i entry) (λ done. continuation) (Err why) before later
 not_delivered {S} {B} {E} IsJudgement forms i j entry why before later is f =
     subst (λ (k : ℕ). RunsOnWire {T = Unit {0}} IsJudgement (delivery forms k entry) (λ done. continuation) (Err why) before later) (sym is)
-    (wire-fails {H = List ℕ → Input S E → Work S B E} {T = Unit {0}} IsJudgement (proposal forms (forms.batch entry))
+    (wire-fails {H = List ℕ → Input S E → SessionWork S B E} {T = Unit {0}} IsJudgement (proposal forms (forms.batch entry))
     (λ (given : Vec ℕ). continuation_with given.items)
-    (λ (go : Input S E → Work S B E) (proofs : List ℕ) (rest : Input S E). installation forms entry rest go)
+    (λ (go : Input S E → SessionWork S B E) (proofs : List ℕ) (rest : Input S E). installation forms entry rest go)
     (delivery forms (suc j) entry) (λ (done : Unit {0}). continuation) why before later (delivery-is forms j entry) f)
 
 -- The loop.
@@ -394,7 +394,7 @@ entry_at (entry ∷ entries) (suc i) within =
     let rest = entry_at entries i (omega (arith, within)) in (rest.0, rest.1, rest.2)
 
 deliveries-is : {S B E : Type 0} (forms : Forms B E) (i : ℕ) (entry : E) (entries : List E) (input : Input S E)
-    (go : Input S E → Work S B E) → deliveries forms i (entry ∷ entries) input go
+    (go : Input S E → SessionWork S B E) → deliveries forms i (entry ∷ entries) input go
     ≡ delivery forms i entry input (λ (rest : Input S E). deliveries forms (suc i) entries rest go)
 unfolding deliveries
 deliveries-is forms i entry entries input go = refl
@@ -403,11 +403,11 @@ deliveries-is forms i entry entries input go = refl
 delivery_next : {S B E : Type 0} (IsJudgement : S → B → List ℕ → Judgement S E → Type 0) (forms : Forms B E) (entries : List E)
     (i : ℕ) (entry : E) (a : Snapshot S E) → drop i entries ≡ entry ∷ drop (suc i) entries
     → Reaches IsJudgement (deliveries forms i (drop i entries))
-    (λ (input : Input S E) (go : Input S E → Work S B E). delivery forms i entry input (λ (rest : Input S E). deliveries forms (suc i) (drop (suc i) entries) rest go)) a a
+    (λ (input : Input S E) (go : Input S E → SessionWork S B E). delivery forms i entry input (λ (rest : Input S E). deliveries forms (suc i) (drop (suc i) entries) rest go)) a a
 delivery_next {S} {B} {E} IsJudgement forms entries i entry a is =
     reaches-here IsJudgement (deliveries forms i (drop i entries))
-    (λ (input : Input S E) (go : Input S E → Work S B E). delivery forms i entry input (λ (rest : Input S E). deliveries forms (suc i) (drop (suc i) entries) rest go)) a
-    (λ (input : Input S E) (go : Input S E → Work S B E).
+    (λ (input : Input S E) (go : Input S E → SessionWork S B E). delivery forms i entry input (λ (rest : Input S E). deliveries forms (suc i) (drop (suc i) entries) rest go)) a
+    (λ (input : Input S E) (go : Input S E → SessionWork S B E).
     ap (λ (es : List E). deliveries forms i es input go) is ∙ deliveries-is forms i entry (drop (suc i) entries) input go)
 
 -- what a call says that delivers an entry
@@ -426,14 +426,14 @@ delivered_more {S} {B} {E} IsJudgement forms entries held i next done wire now l
     let e = entry_at entries i within in
     let mid : Snapshot S E = on_wire so_far.0 before in
     let r = one e.0 mid e.1 so_far.1 in
-    let at_entry : Piece S B E (Input S E → Work S B E) =
+    let at_entry : Piece S B E (Input S E → SessionWork S B E) =
     λ input go. delivery forms i e.0 input (λ (rest : Input S E). deliveries forms (suc i) (drop (suc i) entries) rest go) in
     let here : Reaches IsJudgement (deliveries forms held (drop held entries)) at_entry before mid =
     reaches-then IsJudgement (deliveries forms held (drop held entries)) (deliveries forms i (drop i entries)) at_entry before mid mid so_far.2
     (delivery_next IsJudgement forms entries i e.0 mid e.2) in
     let on_it : Reaches IsJudgement at_entry (deliveries forms (suc i) (drop (suc i) entries)) mid (on_wire r.0 before) =
-    reaches-in {H = Input S E → Work S B E} IsJudgement (delivery forms i e.0) continuation
-    (λ (go : Input S E → Work S B E) (rest : Input S E). deliveries forms (suc i) (drop (suc i) entries) rest go) mid (on_wire r.0 before) r.2 in
+    reaches-in {H = Input S E → SessionWork S B E} IsJudgement (delivery forms i e.0) continuation
+    (λ (go : Input S E → SessionWork S B E) (rest : Input S E). deliveries forms (suc i) (drop (suc i) entries) rest go) mid (on_wire r.0 before) r.2 in
     let whole : Reaches IsJudgement (deliveries forms held (drop held entries)) (deliveries forms (suc i) (drop (suc i) entries)) before (on_wire r.0 before) =
     reaches-then IsJudgement (deliveries forms held (drop held entries)) at_entry (deliveries forms (suc i) (drop (suc i) entries)) before mid (on_wire r.0 before) here on_it in (
       r.0,
@@ -451,7 +451,7 @@ delivery_stops {S} {B} {E} IsJudgement forms entries held i why wire now later w
     let e = entry_at entries i within in
     let mid : Snapshot S E = on_wire so_far.0 before in
     let r = one e.0 mid e.1 so_far.1 in
-    let at_entry : Piece S B E (Input S E → Work S B E) =
+    let at_entry : Piece S B E (Input S E → SessionWork S B E) =
     λ input go. delivery forms i e.0 input (λ (rest : Input S E). deliveries forms (suc i) (drop (suc i) entries) rest go) in
     let here : Reaches IsJudgement (deliveries forms held (drop held entries)) at_entry before mid =
     reaches-then IsJudgement (deliveries forms held (drop held entries)) (deliveries forms i (drop i entries)) at_entry before mid mid so_far.2
@@ -459,11 +459,11 @@ delivery_stops {S} {B} {E} IsJudgement forms entries held i why wire now later w
       r.0,
       r.1,
       fails-then IsJudgement (λ entry. ⊥) (deliveries forms held (drop held entries)) at_entry why before mid (on_wire r.0 before) here
-          (fails-in {H = Input S E → Work S B E} IsJudgement (λ entry. ⊥) (delivery forms i e.0) why
-          (λ (go : Input S E → Work S B E) (rest : Input S E). deliveries forms (suc i) (drop (suc i) entries) rest go) mid (on_wire r.0 before) r.2),
+          (fails-in {H = Input S E → SessionWork S B E} IsJudgement (λ entry. ⊥) (delivery forms i e.0) why
+          (λ (go : Input S E → SessionWork S B E) (rest : Input S E). deliveries forms (suc i) (drop (suc i) entries) rest go) mid (on_wire r.0 before) r.2),
     )
 
-deliveries-none : {S B E : Type 0} (forms : Forms B E) (i : ℕ) (input : Input S E) (go : Input S E → Work S B E)
+deliveries-none : {S B E : Type 0} (forms : Forms B E) (i : ℕ) (input : Input S E) (go : Input S E → SessionWork S B E)
     → deliveries forms i [] input go ≡ go input
 unfolding deliveries
 deliveries-none forms i input go = refl
@@ -479,13 +479,13 @@ delivered_all {S} {B} {E} IsJudgement forms entries held i done wire now all h b
       so_far.1,
       reaches-then IsJudgement (deliveries forms held (drop held entries)) (deliveries forms i (drop i entries)) continuation before mid mid so_far.2
           (reaches-here IsJudgement (deliveries forms i (drop i entries)) continuation mid
-          (λ (input : Input S E) (go : Input S E → Work S B E).
+          (λ (input : Input S E) (go : Input S E → SessionWork S B E).
           ap (λ (es : List E). deliveries forms i es input go) (drop_all i entries all) ∙ deliveries-none forms i input go)),
     )
 
 -- The whole.
 
-catch_up-is : {S B E : Type 0} (forms : Forms B E) (entries : List E) (input : Input S E) (go : Input S E → Work S B E)
+catch_up-is : {S B E : Type 0} (forms : Forms B E) (entries : List E) (input : Input S E) (go : Input S E → SessionWork S B E)
     → catch_up forms entries input go ≡ standing forms entries input
     (λ (count : ℕ) (rest : Input S E). deliveries forms count (drop count entries) rest go)
 unfolding catch_up
@@ -498,8 +498,8 @@ pub caught_up : {S B E : Type 0} (IsJudgement : S → B → List ℕ → Judgeme
     → RunsOnWire IsJudgement (deliveries forms count (drop count entries)) (λ (done : Unit {0}). continuation) result now later)
     → RunsOnWire IsJudgement (catch_up forms entries) (λ (done : Unit {0}). continuation) result before later
 caught_up {S} {B} {E} IsJudgement forms entries count result before mid later f s =
-    wire-then {H = ℕ → Input S E → Work S B E} IsJudgement (standing forms entries) continuation_with
-    (λ (go : Input S E → Work S B E) (count : ℕ) (rest : Input S E). deliveries forms count (drop count entries) rest go)
+    wire-then {H = ℕ → Input S E → SessionWork S B E} IsJudgement (standing forms entries) continuation_with
+    (λ (go : Input S E → SessionWork S B E) (count : ℕ) (rest : Input S E). deliveries forms count (drop count entries) rest go)
     (catch_up forms entries) (λ (done : Unit {0}). continuation) count result before mid later (catch_up-is forms entries) f s
 
 pub not_caught_up : {S B E : Type 0} (IsJudgement : S → B → List ℕ → Judgement S E → Type 0) (forms : Forms B E) (entries : List E)
@@ -507,8 +507,8 @@ pub not_caught_up : {S B E : Type 0} (IsJudgement : S → B → List ℕ → Jud
     → RunsOnWire IsJudgement (standing forms entries) continuation_with (Err why) before later
     → RunsOnWire {T = Unit {0}} IsJudgement (catch_up forms entries) (λ done. continuation) (Err why) before later
 not_caught_up {S} {B} {E} IsJudgement forms entries why before later f =
-    wire-fails {H = ℕ → Input S E → Work S B E} {T = Unit {0}} IsJudgement (standing forms entries) continuation_with
-    (λ (go : Input S E → Work S B E) (count : ℕ) (rest : Input S E). deliveries forms count (drop count entries) rest go)
+    wire-fails {H = ℕ → Input S E → SessionWork S B E} {T = Unit {0}} IsJudgement (standing forms entries) continuation_with
+    (λ (go : Input S E → SessionWork S B E) (count : ℕ) (rest : Input S E). deliveries forms count (drop count entries) rest go)
     (catch_up forms entries) (λ (done : Unit {0}). continuation) why before later (catch_up-is forms entries) f
 
 -- Misses.

@@ -1,6 +1,6 @@
 pub mod Endings
 pub mod Faults
-pub mod Work
+pub mod SessionWork
 pub mod Stopping
 pub mod Runs
 pub mod Sessions

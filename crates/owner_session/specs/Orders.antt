@@ -4,7 +4,7 @@ use Rattle.link_frames.specs.declared.frame_kind.FrameKind.TheVariants.{Install}
 use Rattle.link_frames.specs.Frames.{frame_bytes}
 use Rattle.link_frames.specs.Scripts.{Event, Puts, Takes, Does, others}
 use Rattle.owner_session.specs.Endings.{Done, version_line}
-use Rattle.owner_session.specs.Work.{Forms, Makes, Refuses, Deed, Steps, Appends, Says, Work}
+use Rattle.owner_session.specs.SessionWork.{Forms, Makes, Refuses, Deed, Steps, Appends, Says, SessionWork}
 use Rattle.owner_session.specs.Runs.{lines_of, entries_of}
 
 -- each frame is followed at once by its answer
@@ -58,7 +58,7 @@ version_lines forms entries = flat_map (λ entry. version_line (forms.version en
 
 -- Work that is done was done on each of these batches, in order, and its lines are the versions of
 -- the entries that were appended.
-abbrev pub CommitsEach : {S B E : Type 0} → Forms B E → List B → Work S B E → Type 0
+abbrev pub CommitsEach : {S B E : Type 0} → Forms B E → List B → SessionWork S B E → Type 0
 CommitsEach forms batches work = work.value ≡ Some Done
     → (batches_of (others work.events) ≡ batches)
     × (lines_of (others work.events) ≡ version_lines forms (entries_of (others work.events)))

@@ -3,7 +3,7 @@ use Rattle.std.specs.Prelude.{◌≡◌, ℕ, List, [], ◌++◌, take, flat_map
 use Rattle.outside.specs.ConnectionModel.{ConnectionModel}
 use Rattle.link_frames.specs.declared.frame_kind.FrameKind.TheVariants.{Status, Propose, Install}
 use Rattle.link_frames.specs.Frames.{frame_bytes}
-use Rattle.owner_session.specs.Work.{Forms}
+use Rattle.owner_session.specs.SessionWork.{Forms}
 
 -- the store is asked where it stands; a batch is proposed; an entry is installed
 pub data Request (B E : Type 0) : Type 0 where

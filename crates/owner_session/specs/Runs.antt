@@ -17,7 +17,7 @@ use Rattle.owner_session.specs.declared.place.Place.{Place}
 use Rattle.owner_session.specs.declared.place.Place.TheVariants.{Holds, Elsewhere, NoStanding}
 use Rattle.owner_session.specs.Endings.{Ending, StandsElsewhere, BadAnswer, OwnerRefuses, Reports, StopsWith}
 use Rattle.owner_session.specs.Stopping.{StopsOnLink}
-use Rattle.owner_session.specs.Work.{Judgement, Makes, Refuses, Deed, Steps, Appends, Says, Work, Input, Body, NoBody, answer_of}
+use Rattle.owner_session.specs.SessionWork.{Judgement, Makes, Refuses, Deed, Steps, Appends, Says, SessionWork, Input, Body, NoBody, answer_of}
 
 -- What deeds leave.
 
@@ -74,20 +74,21 @@ HasWritten deeds besides before after =
     after.written ≡ append_known before.written (lines_of deeds ++ besides)
 
 -- the next of the work's deeds is this
-abbrev pub IsNext : {S B E : Type 0} → Deed S B E → List (Deed S B E) → Work S B E → Type 0
+abbrev pub IsNext : {S B E : Type 0} → Deed S B E → List (Deed S B E) → SessionWork S B E → Type 0
 IsNext deed deeds work = (later : List _) × (others work.events ≡ deeds ++ deed ∷ later)
 
 -- Pieces of work that go on.
 
 -- a piece of work, which goes on with a rest
 abbrev pub Piece : (S B E G : Type 0) → Type 0
-Piece S B E G = Input S E → G → Work S B E
+Piece S B E G = Input S E → G → SessionWork S B E
 
 -- nothing is left of it: the rest follows, and is handed what was given
-abbrev pub continuation : {S B E : Type 0} → Piece S B E (Input S E → Work S B E)
+abbrev pub continuation : {S B E : Type 0} → Piece S B E (Input S E → SessionWork S B E)
 continuation input go = go input
 
-abbrev pub continuation_with : {S B E X : Type 0} → X → Piece S B E (X → Input S E → Work S B E)
+abbrev pub continuation_with : {S B E X : Type 0} → X
+    → Piece S B E (X → Input S E → SessionWork S B E)
 continuation_with given input go = go given input
 
 abbrev pub input_of : {S E : Type 0} → Snapshot S E → List (Judgement S E) → Input S E
@@ -111,7 +112,8 @@ pub record Reaches {S B E G : Type 0} (IsJudgement : S → B → List ℕ → Ju
 
 -- The work stopped so: it was done; or it stopped in the midst of an event, which is one of the
 -- connection where the link failed, and where after a failing disk the entry that was next has Kept.
-abbrev pub Halts : {S B E : Type 0} → (E → Type 0) → Work S B E → SessionStop → List (Deed S B E)
+abbrev pub Halts : {S B E : Type 0} → (E → Type 0) → SessionWork S B E → SessionStop
+    → List (Deed S B E)
     → Snapshot S E → Snapshot S E → Type 0
 Halts Kept work (stop.Refused report) deeds before after =
     ((ending : Ending) × (work.value ≡ Some ending) × Reports report ending)
@@ -167,17 +169,17 @@ RunsTo IsJudgement Kept work rest result before wire written state entries =
 -- One exchange.
 
 -- a frame was put, and its answer is this body; or it stopped
-abbrev pub Trades : List ℕ → Coming → Result (Vec ℕ) SessionStop → ConnectionModel
+abbrev pub Exchanges : List ℕ → Coming → Result (Vec ℕ) SessionStop → ConnectionModel
     → Option ConnectionModel → Type 0
-Trades frame first (Ok body) before wire =
+Exchanges frame first (Ok body) before wire =
     (answer_of first ≡ Body body.items)
     × (wire ≡ Some (take_from (span first) (send_on frame before)))
-Trades frame first (Err (stop.Refused report)) before wire =
+Exchanges frame first (Err (stop.Refused report)) before wire =
     ((ending : Ending) × (answer_of first ≡ NoBody ending) × Reports report ending)
     × (wire ≡ Some (take_from (span first) (send_on frame before)))
-Trades frame first (Err stop.LinkFault) before wire = IsBrokenOff frame first before wire
-Trades frame first (Err stop.Memory) before wire = IsHalfAsked frame first before wire
-Trades frame first (Err _) before wire = ⊥
+Exchanges frame first (Err stop.LinkFault) before wire = IsBrokenOff frame first before wire
+Exchanges frame first (Err stop.Memory) before wire = IsHalfAsked frame first before wire
+Exchanges frame first (Err _) before wire = ⊥
 
 -- of an answer that came whole, this is the body, or why there is none
 abbrev pub AnswersBody : FrameKind → List ℕ → Result (Vec ℕ) SessionStop → Type 0

@@ -4,7 +4,7 @@ use Rattle.outside.specs.Sink.{append_known}
 use Rattle.link_frames.specs.Scripts.{IsDone, Stops}
 use Rattle.outside.specs.Outputs.{Output, Writes, outside_failure}
 use Rattle.owner_session.specs.Endings.{Ending, Done, output_of}
-use Rattle.owner_session.specs.Work.{Judgement, Deed, Appends, Says, Work, Forms, session}
+use Rattle.owner_session.specs.SessionWork.{Judgement, Deed, Appends, Says, SessionWork, Forms, session}
 use Rattle.owner_session.specs.Stopping.{StopsOnLink}
 use Rattle.owner_session.specs.Runs.{Snapshot, LeadsTo, AreJudgements, IsNext, HasWritten, input_of, lines_of}
 
@@ -23,7 +23,8 @@ WritesEnding ending OutRose status deeds before after =
     WritesLast (output_of ending) OutRose status deeds before after
 
 -- all of the work was done, and its ending is written
-abbrev pub Finishes : {S B E : Type 0} → Work S B E → Type 0 → ℕ → List (Deed S B E) → Snapshot S E
+abbrev pub Finishes : {S B E : Type 0} → SessionWork S B E → Type 0 → ℕ → List (Deed S B E)
+    → Snapshot S E
     → Snapshot S E → Type 0
 Finishes work OutRose status deeds before after =
     (ending : Ending) × (work.value ≡ Some ending)
@@ -31,21 +32,21 @@ Finishes work OutRose status deeds before after =
     × WritesEnding ending OutRose status deeds before after
 
 -- the link failed in the midst of an event of the connection, and so it is written
-abbrev pub StopsAtLink : {S B E : Type 0} → Work S B E → Type 0 → ℕ → List (Deed S B E)
+abbrev pub StopsAtLink : {S B E : Type 0} → SessionWork S B E → Type 0 → ℕ → List (Deed S B E)
     → Snapshot S E → Snapshot S E → Type 0
 StopsAtLink work OutRose status deeds before after =
     StopsOnLink work.events deeds before.wire after.wire
     × WritesLast outside_failure OutRose status deeds before after
 
 -- the same of the disk, in the midst of any event
-abbrev pub StopsAtFault : {S B E : Type 0} → Work S B E → Type 0 → ℕ → List (Deed S B E)
+abbrev pub StopsAtFault : {S B E : Type 0} → SessionWork S B E → Type 0 → ℕ → List (Deed S B E)
     → Snapshot S E → Snapshot S E → Type 0
 StopsAtFault work OutRose status deeds before after =
     Stops work.events deeds before.wire after.wire
     × WritesLast outside_failure OutRose status deeds before after
 
 -- the output failed at a line, which is there in part
-abbrev pub StopsAtLine : {S B E : Type 0} → Work S B E → ℕ → List (Deed S B E) → Snapshot S E
+abbrev pub StopsAtLine : {S B E : Type 0} → SessionWork S B E → ℕ → List (Deed S B E) → Snapshot S E
     → Snapshot S E → Type 0
 StopsAtLine work status deeds before after =
     (status ≡ 3) × Stops work.events deeds before.wire after.wire
@@ -53,14 +54,14 @@ StopsAtLine work status deeds before after =
     × HasWritten deeds (take n line) before after)
 
 -- memory ran out
-abbrev pub StopsInWant : {S B E : Type 0} → Work S B E → ℕ → List (Deed S B E) → Snapshot S E
+abbrev pub StopsInWant : {S B E : Type 0} → SessionWork S B E → ℕ → List (Deed S B E) → Snapshot S E
     → Snapshot S E → Type 0
 StopsInWant work status deeds before after =
     (status ≡ 4) × Stops work.events deeds before.wire after.wire × HasWritten deeds [] before after
 
 -- The work was done, or a fault rose or memory ran out. What the disk has is kept; where it failed,
 -- it is kept with the entry that was next.
-abbrev pub SessionEnds : {S B E : Type 0} → Work S B E → Type 0 → Type 0 → Type 0 → Type 0
+abbrev pub SessionEnds : {S B E : Type 0} → SessionWork S B E → Type 0 → Type 0 → Type 0 → Type 0
     → (E → Type 0) → ℕ → List (Deed S B E) → Snapshot S E → Snapshot S E → Type 0
 SessionEnds work LinkRose DiskRose OutRose Kept KeptWith status deeds before after =
     (Kept × Finishes work OutRose status deeds before after)

@@ -4,16 +4,16 @@ ghost use Rattle.link_frames.specs.declared.awaits.Awaits.TheVariants.{Standing}
 ghost use Rattle.link_frames.specs.declared.frame_kind.FrameKind.TheVariants.{Status};
 ghost use Rattle.link_frames.specs.Reading.{KeepsLinkCounts};
 ghost use Rattle.owner_session.specs.Endings.{IsOfLink};
-ghost use Rattle.owner_session.specs.Work.{standing, delivery, deliveries, catch_up};
+ghost use Rattle.owner_session.specs.SessionWork.{standing, delivery, deliveries, catch_up};
 ghost use Rattle.owner_session.specs.Runs.{Snapshot, RunsOnWire, HoldsSome, continuation, continuation_with};
 
+use crate::exchange::exchange;
 use crate::install::install_entry;
 use crate::lines::{bad_answer, stands_elsewhere};
 use crate::place::Place;
 use crate::propose::propose_entry;
 use crate::session_owner::SessionOwner;
 use crate::stop::SessionStop;
-use crate::trade::trade;
 use link_frames::{Awaits, FrameKind};
 use outside::Link;
 use std::alloc::Global;
@@ -53,7 +53,7 @@ fn ask_standing<O: SessionOwner, L: Link>(
         (IsErrOf result SessionStop.LinkFault) }
     ensures inside { IfErr result IsOfLink }
 {
-    match trade(alloc, link, FrameKind::Status, &[], Awaits::Standing) {
+    match exchange(alloc, link, FrameKind::Status, &[], Awaits::Standing) {
         Ok(body) => count_held(alloc, owner.place(&body), &body),
         Err(stop) => Err(stop),
     }

@@ -3,7 +3,7 @@ ghost use Rattle.std.specs.Prelude.{◌≡◌, ◌<◌, ◌-◌, length, slice_g
 ghost use Rattle.outside.specs.ConnectionModel.{ConnectionModel};
 ghost use Rattle.link_frames.specs.Reading.{StaysWhereItStands};
 ghost use Rattle.owner_session.specs.Faults.{CountsFaults};
-ghost use Rattle.owner_session.specs.Work.{publication, commit, step, batch_commit, commits};
+ghost use Rattle.owner_session.specs.SessionWork.{publication, commit, step, batch_commit, commits};
 ghost use Rattle.owner_session.specs.Runs.{RunsTo, TakesStep, UnlessDisk, snapshot_of, continuation, continuation_with};
 
 use crate::announce::announce;

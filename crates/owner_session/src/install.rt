@@ -5,13 +5,13 @@ ghost use Rattle.link_frames.specs.declared.awaits.Awaits.TheVariants.{Installed
 ghost use Rattle.link_frames.specs.declared.frame_kind.FrameKind.TheVariants.{Install};
 ghost use Rattle.vo_spec.specs.Bytes.{u64_bytes};
 ghost use Rattle.owner_session.specs.Endings.{IsOfLink};
-ghost use Rattle.owner_session.specs.Work.{exchange, installation};
+ghost use Rattle.owner_session.specs.SessionWork.{exchange, installation};
 ghost use Rattle.owner_session.specs.Runs.{Snapshot, RunsOnWire, ChecksVersion, continuation, continuation_with};
 
+use crate::exchange::exchange;
 use crate::lines::stands_elsewhere;
 use crate::session_owner::SessionOwner;
 use crate::stop::SessionStop;
-use crate::trade::trade;
 use link_frames::{Awaits, FrameKind};
 use outside::Link;
 use std::alloc::Global;
@@ -60,7 +60,7 @@ fn put_install<O: SessionOwner, L: Link>(
     ensures inside { IfErr result IsOfLink }
 {
     match owner.install_body(alloc, index) {
-        Ok(body) => trade(alloc, link, FrameKind::Install, &body, Awaits::Installed),
+        Ok(body) => exchange(alloc, link, FrameKind::Install, &body, Awaits::Installed),
         Err(_) => Err(SessionStop::Memory),
     }
 }

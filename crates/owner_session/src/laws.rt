@@ -2,7 +2,7 @@
 ghost use Rattle.std.specs.Prelude.{List, ◌++◌, map};
 ghost use Rattle.outside.specs.ConnectionModel.{ConnectionModel};
 ghost use Rattle.link_frames.specs.Scripts.{IsDone, Stops};
-ghost use Rattle.owner_session.specs.Work.{Deed, Input, session};
+ghost use Rattle.owner_session.specs.SessionWork.{Deed, Input, session};
 ghost use Rattle.owner_session.specs.Runs.{entries_of};
 ghost use Rattle.owner_session.specs.Requests.{PutsRequests};
 ghost use Rattle.owner_session.specs.Orders.{Alternates, KeepsFirst, StepsFirst, CommitsEach};

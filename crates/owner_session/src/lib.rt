@@ -9,6 +9,7 @@
 mod announce;
 mod catch_up;
 mod commit;
+mod exchange;
 mod install;
 mod laws;
 mod lines;
@@ -20,7 +21,6 @@ mod session_owner;
 mod stop;
 #[cfg(test)]
 mod tests;
-mod trade;
 
 pub use laws::sessions_in_order;
 pub use place::Place;

@@ -2,12 +2,12 @@
 ghost use Rattle.std.specs.Prelude.{◌≡◌, ◌<◌, ◌≤◌, length, slice_get, Some, IfErr, IsErrOf};
 ghost use Rattle.link_frames.specs.Reading.{KeepsLinkCounts};
 ghost use Rattle.owner_session.specs.Endings.{IsOfLink};
-ghost use Rattle.owner_session.specs.Work.{proposal};
+ghost use Rattle.owner_session.specs.SessionWork.{proposal};
 ghost use Rattle.owner_session.specs.Runs.{Snapshot, RunsOnWire, continuation_with};
 
+use crate::exchange::exchange;
 use crate::session_owner::SessionOwner;
 use crate::stop::SessionStop;
-use crate::trade::trade;
 use link_frames::{Awaits, FrameKind};
 use outside::Link;
 use std::alloc::Global;
@@ -29,7 +29,7 @@ pub fn propose_batch<O: SessionOwner, L: Link>(
     ensures inside { IfErr result IsOfLink }
 {
     match owner.batch_proposal(alloc, batch) {
-        Ok(body) => trade(alloc, link, FrameKind::Propose, &body, Awaits::Proofs),
+        Ok(body) => exchange(alloc, link, FrameKind::Propose, &body, Awaits::Proofs),
         Err(_) => Err(SessionStop::Memory),
     }
 }
@@ -53,7 +53,7 @@ pub fn propose_entry<O: SessionOwner, L: Link>(
     ensures inside { IfErr result IsOfLink }
 {
     match owner.entry_proposal(alloc, index) {
-        Ok(body) => trade(alloc, link, FrameKind::Propose, &body, Awaits::Proofs),
+        Ok(body) => exchange(alloc, link, FrameKind::Propose, &body, Awaits::Proofs),
         Err(_) => Err(SessionStop::Memory),
     }
 }

@@ -5,7 +5,7 @@ ghost use Rattle.outside.specs.FaultRose.{FaultRose};
 ghost use Rattle.link_frames.specs.Reading.{StaysWhereItStands};
 ghost use Rattle.owner_session.specs.Runs.{RunsTo, UnlessDisk, snapshot_of, continuation};
 ghost use Rattle.owner_session.specs.Faults.{CountsFaults};
-ghost use Rattle.owner_session.specs.Work.{session_on};
+ghost use Rattle.owner_session.specs.SessionWork.{session_on};
 ghost use Rattle.owner_session.specs.Requests.{PutsRequests};
 ghost use Rattle.owner_session.specs.Sessions.{SessionRuns, SessionIsDone};
 

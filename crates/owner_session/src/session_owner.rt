@@ -1,7 +1,7 @@
 //! An owner, as a session sees it: where it stands, its journal, and what it makes of a batch.
 ghost use Rattle.std.specs.Prelude.{◌≡◌, ℕ, ◌+◌, ◌<◌, ◌≤◌, ◌^◌, List, [], ◌∷◌, ◌++◌, length, slice_get, Some, IfOk, OnOk, OnErr, IsErrOf};
 ghost use Rattle.outside.specs.FaultRose.{FaultRose};
-ghost use Rattle.owner_session.specs.Work.{Forms, Judgement, StepsTo};
+ghost use Rattle.owner_session.specs.SessionWork.{Forms, Judgement, StepsTo};
 ghost use Rattle.owner_session.specs.Runs.{KeepsBy};
 
 use crate::place::Place;

@@ -36,9 +36,9 @@ BeginsEmpty [] = Unit {0}
 BeginsEmpty (e ∷ es) = e.batch.commands ≡ []
 
 -- the trees of a version are those after its batches, the first left out, which has no commands
-pub trees_of : (v : ℕ) (es : List Entry) → BeginsEmpty es → honest_trees (batches_of (take (v + 1) es)) ≡ trees_at v es
-trees_of v [] empty = ap (λ (xs : List Entry). honest_trees (batches_of xs)) (take-nil (v + 1) ∙ sym (take-nil v))
-trees_of v (x ∷ xs) empty =
+pub honest_trees_at : (v : ℕ) (es : List Entry) → BeginsEmpty es → honest_trees (batches_of (take (v + 1) es)) ≡ trees_at v es
+honest_trees_at v [] empty = ap (λ (xs : List Entry). honest_trees (batches_of xs)) (take-nil (v + 1) ∙ sym (take-nil v))
+honest_trees_at v (x ∷ xs) empty =
     ap (λ (n : ℕ). honest_trees (batches_of (take n (x ∷ xs)))) (add-one v)
     ∙ ap (λ (batch : List Command). honest_trees (batch ∷ batches_of (take v xs))) empty
     ∙ no_trees_before (batches_of (take v xs))
@@ -68,7 +68,7 @@ module _ (key : List ℕ) where
   pub kept_tables : (v : ℕ) (es : List Entry) (kept : Option (List Stored)) → AreOwned key es
       → IfSome kept (λ (ss : List Stored). ss ≡ honest_trees (batches_of (take (v + 1) es))) → IfSome kept (λ (ss : List Stored). ss ≡ trees_at v es)
   kept_tables v es None owned is = tt
-  kept_tables v es (Some ss) owned is = is ∙ trees_of v es (all_begin_empty es owned)
+  kept_tables v es (Some ss) owned is = is ∙ honest_trees_at v es (all_begin_empty es owned)
 
   not_at_first : (n : ℕ) (es : List Entry) (roots : Roots) → AreOwnedTo key (take n es) roots → 0 < n
   unfolding AreOwnedTo
@@ -107,7 +107,7 @@ module _ (key : List ℕ) where
     empty = owned_begins_empty n es owned
 
     trees_now : after_work stored e.batch.commands ≡ trees_at n es
-    trees_now = trees_more (take n es) stored e turn.trees ∙ ap (λ (fs : List Entry). honest_trees (batches_of fs)) (sym turn.more) ∙ trees_of n es empty
+    trees_now = trees_more (take n es) stored e turn.trees ∙ ap (λ (fs : List Entry). honest_trees (batches_of fs)) (sym turn.more) ∙ honest_trees_at n es empty
 
     version_now : after.version ≡ n
     version_now =
@@ -156,7 +156,7 @@ module _ (key : List ℕ) where
     departure_at roots is leads honest later other =
         let v : ℕ = n - 1 in
         let number : v + 1 ≡ n = omega (arith, later) in
-        let trees : stored ≡ trees_at v es = turn.trees ∙ ap (λ (k : ℕ). honest_trees (batches_of (take k es))) (sym number) ∙ trees_of v es empty in
+        let trees : stored ≡ trees_at v es = turn.trees ∙ ap (λ (k : ℕ). honest_trees (batches_of (take k es))) (sym number) ∙ honest_trees_at v es empty in
         record {
           entry = e;
           there = turn.there;

@@ -24,7 +24,7 @@ struct TreeList {
 /// The tables after a batch, whose proofs are put at the end of `proofs`. A refused batch has
 /// proofs too: those up to the refused command, its own among them where it has one.
 #[tactic(auto, unfolding(vo_spec::specs::Replies::proofs_bytes))]
-pub fn work_batch(
+pub fn apply_with_proofs(
     alloc: Global,
     tables: StoredTables,
     commands: &[Command],
@@ -39,7 +39,7 @@ pub fn work_batch(
         bytes: Vec::new(alloc),
         count: 0,
     };
-    let after = work_in_turn(alloc, tables, commands, &mut trees);
+    let after = apply_in_turn(alloc, tables, commands, &mut trees);
     begin_proofs(proofs, trees.count)?;
     proofs.extend_from_slice(&trees.bytes)?;
     after
@@ -47,7 +47,7 @@ pub fn work_batch(
 
 /// The tables after the commands, with the tree that each looks at, before it, put at the end of
 /// the list.
-fn work_in_turn(
+fn apply_in_turn(
     alloc: Global,
     before: StoredTables,
     commands: &[Command],

@@ -27,7 +27,7 @@ pub(crate) struct HonestTrees {
 }
 
 /// The tables after a batch; one that is refused leaves them.
-fn tables_after(
+fn tables_after_batch(
     alloc: Global,
     tables: &StoredTables,
     batch: &Batch,
@@ -69,7 +69,7 @@ pub(crate) fn follow_batch(
     ensures departure { OnOk result (DepartsNext honest.old.departure index honest.old.tables
         catalog.now honest.new.tables honest.new.departure) }
 {
-    let after = tables_after(alloc, &honest.tables, batch)?;
+    let after = tables_after_batch(alloc, &honest.tables, batch)?;
     if honest.departure.is_some() || has_catalog(alloc, &after, catalog)? {
         honest.tables = after;
         return Ok(());

@@ -17,7 +17,7 @@ use vo_spec::List;
 
 /// Why bytes are no such journal.
 #[derive(Clone, Copy, Debug, PartialEq, Eq, Error)]
-pub enum JournalFault {
+pub enum JournalReadFault {
     /// The first entry that can't be read, isn't of the sort, or is wanted and isn't there, has
     /// this number.
     #[error("a bad journal")]
@@ -26,14 +26,14 @@ pub enum JournalFault {
     Memory,
 }
 
-impl From<AllocError> for JournalFault {
+impl From<AllocError> for JournalReadFault {
     ghost use Rattle.std.specs.Prelude.{◌≡◌};
-    ghost use Rattle.owner_state.specs.declared.journals.JournalFault.TheVariants.{Memory};
+    ghost use Rattle.owner_state.specs.declared.journals.JournalReadFault.TheVariants.{Memory};
 
     ghost from_gives = { λ _ fault. fault ≡ Memory };
 
-    fn from(_error: AllocError) -> JournalFault {
-        JournalFault::Memory
+    fn from(_error: AllocError) -> JournalReadFault {
+        JournalReadFault::Memory
     }
 }
 
@@ -61,14 +61,14 @@ pub fn read_owned<'b>(
     key: &PublicKey,
     journal: &'b [u8],
     version: u64,
-) -> Result<OwnedJournal<'b>, JournalFault>
+) -> Result<OwnedJournal<'b>, JournalReadFault>
     ensures owned { IfOk result (λ read. IsOwned key.now journal.now read.entries) }
     ensures tables { IfOk result (λ read.
         IfSome read.tables (λ tables. tables ≡ trees_at version read.entries)) }
     ensures there { IfOk result (λ read. version < length read.entries → IsSome read.tables) }
     ensures only { IfOk result (λ read. IsSome read.tables → version < length read.entries) }
     ensures departure { IfOk result (λ read. Departs key.now read.entries read.departure) }
-    ensures bad { (index : ℕ) → result ≡ Err (JournalFault.BadAt index)
+    ensures bad { (index : ℕ) → result ≡ Err (JournalReadFault.BadAt index)
         → IsBadAt key.now journal.now index }
 {
     let slots = read_slots(alloc, journal)?;
@@ -89,7 +89,7 @@ pub fn read_loadable<'b>(
     key: &PublicKey,
     journal: &'b [u8],
     version: Option<u64>,
-) -> Result<LoadableJournal<'b>, JournalFault>
+) -> Result<LoadableJournal<'b>, JournalReadFault>
     ensures taken { IfOk result (λ read. IsLoadable key.now journal.now read.entries) }
     ensures tables { IfOk result (λ read. IfSome read.tables (λ tables.
         tables ≡ trees_at (version_in version read.entries) read.entries)) }
@@ -97,7 +97,7 @@ pub fn read_loadable<'b>(
         version_in version read.entries < length read.entries → IsSome read.tables) }
     ensures only { IfOk result (λ read.
         IsSome read.tables → version_in version read.entries < length read.entries) }
-    ensures bad { (index : ℕ) → result ≡ Err (JournalFault.BadAt index)
+    ensures bad { (index : ℕ) → result ≡ Err (JournalReadFault.BadAt index)
         → IsUnloadableAt key.now journal.now index }
 {
     let slots = read_slots(alloc, journal)?;
@@ -131,10 +131,10 @@ fn is_whole(slots: &Slots<'_>) -> bool
 }
 
 /// The entry behind the last one is wanted, and isn't there.
-fn end_fault(slots: &Slots<'_>) -> JournalFault
-    ensures { result ≡ JournalFault.BadAt (length slots.now.entries) }
+fn end_fault(slots: &Slots<'_>) -> JournalReadFault
+    ensures { result ≡ JournalReadFault.BadAt (length slots.now.entries) }
 {
-    JournalFault::BadAt {
+    JournalReadFault::BadAt {
         index: slots.entries.len() as u64,
     }
 }

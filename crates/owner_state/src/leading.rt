@@ -13,7 +13,7 @@ use owner_roots::Roots;
 use std::alloc::{AllocError, Global};
 
 /// The roots behind an entry that begins a journal, if it is one of an owner of the key.
-fn lead_first(
+fn roots_behind_first(
     alloc: Global,
     key: &PublicKey,
     entry: &LentEntry<'_>,
@@ -35,7 +35,7 @@ fn lead_first(
 }
 
 /// The roots behind an entry that stands behind these roots, if the owner has written it there.
-fn lead_on(
+fn roots_behind_next(
     alloc: Global,
     key: &PublicKey,
     before: &Roots,
@@ -67,7 +67,7 @@ fn lead_on(
 }
 
 /// The roots behind an entry, if the owner has written it behind those before, or as the first.
-pub(crate) fn lead(
+pub(crate) fn roots_behind(
     alloc: Global,
     key: &PublicKey,
     before: &Option<Roots>,
@@ -78,7 +78,7 @@ pub(crate) fn lead(
     ensures { IfOk result (λ after. Leads key.now before.now entry.now after) }
 {
     match before {
-        None => lead_first(alloc, key, entry),
-        Some(roots) => lead_on(alloc, key, roots, entry),
+        None => roots_behind_first(alloc, key, entry),
+        Some(roots) => roots_behind_next(alloc, key, roots, entry),
     }
 }

@@ -26,13 +26,13 @@ mod steps;
 mod version_zero;
 mod walks;
 
-pub use batch_working::work_batch;
+pub use batch_working::apply_with_proofs;
 pub use copies::copy_entry;
 pub use departures::Departure;
 pub use entry_writing::entry_bytes;
 pub use journal_reading::{EntriesFault, read_entries};
 pub use journal_writing::{journal_bytes, put_entry_block, put_slot};
-pub use journals::{JournalFault, LoadableJournal, OwnedJournal, read_loadable, read_owned};
+pub use journals::{JournalReadFault, LoadableJournal, OwnedJournal, read_loadable, read_owned};
 pub use lent_entry::{LentEntry, into_entries};
 pub use owned_entries::owned;
 pub use owner::Owner;

@@ -12,7 +12,7 @@ ghost use Rattle.owner_roots.specs.Owners.{honest_roots};
 ghost use Rattle.owner_state.specs.Stepping.{signed_entry};
 ghost use Rattle.owner_state.specs.SealResults.{IsAt, Seals};
 
-use crate::batch_working::work_batch;
+use crate::batch_working::apply_with_proofs;
 use crate::copies::copy_batch;
 use crate::entry_signing::sign_entry;
 use crate::journal_writing::put_slot;
@@ -94,7 +94,7 @@ fn seal_version(alloc: Global, sealed: &mut Sealed, batch: &Batch) -> Result<(),
     sealed.owner.prepare(alloc)?;
     let mut proofs = Vec::new(alloc);
     let tables = mem::replace(&mut sealed.tables, StoredTables::new(alloc));
-    sealed.tables = match work_batch(alloc, tables, batch.commands.as_slice(), &mut proofs) {
+    sealed.tables = match apply_with_proofs(alloc, tables, batch.commands.as_slice(), &mut proofs) {
         Ok(after) => after,
         Err(BatchFault::Command { index, fault }) => {
             return Err(SealFault::Command { index, fault });

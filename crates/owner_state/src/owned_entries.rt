@@ -4,7 +4,7 @@ ghost use Rattle.std.specs.List.{AllByRecursion};
 ghost use Rattle.vo_spec.specs.Journals.{FitsEntry};
 ghost use Rattle.owner_roots.specs.Owners.{AreOwned};
 
-use crate::leading::lead;
+use crate::leading::roots_behind;
 use crate::lent_entry::LentEntry;
 use lms_sign::PublicKey;
 use std::alloc::{AllocError, Global};
@@ -20,7 +20,7 @@ pub fn owned(alloc: Global, key: &PublicKey, entries: &[LentEntry<'_>]) -> Resul
 {
     let mut roots = None;
     for (index, entry) in entries.iter().enumerate() {
-        match lead(alloc, key, &roots, entry)? {
+        match roots_behind(alloc, key, &roots, entry)? {
             Some(after) => roots = Some(after),
             None => return Ok(index),
         }

@@ -10,8 +10,8 @@ ghost use Rattle.owner_state.specs.Walking.{GivesTreesIf, StopsAt};
 
 use crate::departures::{Departure, HonestTrees, follow_batch};
 use crate::entry_checks::{check_record, check_store_entry};
-use crate::journals::JournalFault;
-use crate::leading::lead;
+use crate::journals::JournalReadFault;
+use crate::leading::roots_behind;
 use crate::lent_entry::LentEntry;
 use lms_sign::PublicKey;
 use owner_roots::Roots;
@@ -24,14 +24,14 @@ pub(crate) fn walk_loadable(
     key: &PublicKey,
     entries: &[LentEntry<'_>],
     version: u64,
-) -> Result<Option<StoredTables>, JournalFault>
+) -> Result<Option<StoredTables>, JournalReadFault>
     requires { AllByRecursion FitsEntry entries.now }
     ensures taken { IfOk result (λ _. AreLoadable key.now entries.now) }
     ensures tables { IfOk result (λ kept.
         IfSome kept (λ tables. tables ≡ trees_at version entries.now)) }
     ensures there { IfOk result (λ kept. version < length entries.now → IsSome kept) }
     ensures only { IfOk result (λ kept. IsSome kept → version < length entries.now) }
-    ensures bad { (index : ℕ) → result ≡ Err (JournalFault.BadAt index)
+    ensures bad { (index : ℕ) → result ≡ Err (JournalReadFault.BadAt index)
         → StopsAt (AreLoadable key.now) entries.now index }
 {
     let mut tables = StoredTables::new(alloc);
@@ -41,7 +41,7 @@ pub(crate) fn walk_loadable(
             Some(after) => tables = after,
             None => {
                 let index = index as u64;
-                return Err(JournalFault::BadAt { index });
+                return Err(JournalReadFault::BadAt { index });
             }
         }
         keep_tables(alloc, &mut kept, &tables, index as u64, version)?;
@@ -114,7 +114,7 @@ fn walk_each(
     entries: &[LentEntry<'_>],
     version: u64,
     walk: &mut Walk,
-) -> Result<(), JournalFault>
+) -> Result<(), JournalReadFault>
     requires fits { AllByRecursion FitsEntry entries.now }
     requires roots { walk.old.roots ≡ None }
     requires tables { walk.old.honest.tables ≡ [] }
@@ -126,12 +126,12 @@ fn walk_each(
     ensures there { OnOk result (version < length entries.now → IsSome walk.new.kept) }
     ensures only { OnOk result (IsSome walk.new.kept → version < length entries.now) }
     ensures departure { OnOk result (Departs key.now entries.now walk.new.honest.departure) }
-    ensures bad { (index : ℕ) → result ≡ Err (JournalFault.BadAt index)
+    ensures bad { (index : ℕ) → result ≡ Err (JournalReadFault.BadAt index)
         → StopsAt (AreOwned key.now) entries.now index }
 {
     for (index, entry) in entries.iter().enumerate() {
         let index = index as u64;
-        match lead(alloc, key, &walk.roots, entry)? {
+        match roots_behind(alloc, key, &walk.roots, entry)? {
             Some(after) => {
                 follow_batch(
                     alloc,
@@ -142,7 +142,7 @@ fn walk_each(
                 )?;
                 walk.roots = Some(after);
             }
-            None => return Err(JournalFault::BadAt { index }),
+            None => return Err(JournalReadFault::BadAt { index }),
         }
         keep_tables(alloc, &mut walk.kept, &walk.honest.tables, index, version)?;
     }
@@ -155,7 +155,7 @@ pub(crate) fn walk_owned(
     key: &PublicKey,
     entries: &[LentEntry<'_>],
     version: u64,
-) -> Result<Walked, JournalFault>
+) -> Result<Walked, JournalReadFault>
     requires { AllByRecursion FitsEntry entries.now }
     ensures owned { IfOk result (λ _. AreOwned key.now entries.now) }
     ensures tables { IfOk result (λ walked.
@@ -164,7 +164,7 @@ pub(crate) fn walk_owned(
     ensures only { IfOk result (λ walked. IsSome walked.tables → version < length entries.now) }
     ensures departure { IfOk result (λ walked.
         Departs key.now entries.now walked.departure) }
-    ensures bad { (index : ℕ) → result ≡ Err (JournalFault.BadAt index)
+    ensures bad { (index : ℕ) → result ≡ Err (JournalReadFault.BadAt index)
         → StopsAt (AreOwned key.now) entries.now index }
 {
     let mut walk = Walk {

@@ -20,7 +20,7 @@ use Rattle.mb_tree.specs.View.{part_of}
 use Rattle.range_proof.specs.Finding.{FindsOrMissing}
 use Rattle.query_plan.specs.Plans.{QueryPlan, plan_meets, plan_need, has_join_value, meets_left}
 use Rattle.plan_run.specs.declared.ran.Ran.{Ran}
-use Rattle.plan_run.specs.declared.left_views.Shown.{Shown}
+use Rattle.plan_run.specs.declared.left_views.RowsAndNeeds.{RowsAndNeeds}
 use Rattle.query_plan.specs.Answers.{answer_at, pair_answers, left_answers, unlimited_rows}
 use Rattle.plan_run.specs.Running.{Runs, RanOf, Shows, ShowsPairs, group_needs, lefts_seen, rights_by, rights_asked, rights_seen, needs_by, needs_of, stops_at, is_unseen}
 use Rattle.query_plan.proofs.AnswerLaws.{flat_same, valueless_gives_none}
@@ -55,7 +55,7 @@ module _ (p : QueryPlan) (lefts : List RowView) (tree : RowTree) where
         (λ left. asked_same left ∙ ap (λ rights. pair_answers p.query p.late rights left) (sym (append-nil (rights_by p on tree left)))) lefts
         ∙ ap rows_by (sym is)
 
-    pub pairs_shown : (r : Result Shown ScanFault) → ShowsPairs r p on lefts tree → Shows r p lefts tree
+    pub pairs_shown : (r : Result RowsAndNeeds ScanFault) → ShowsPairs r p on lefts tree → Shows r p lefts tree
     pairs_shown (Ok shown) h = (unseen_are ∙ h.0, h.1 ∙ rows_are, h.2 ∙ sym needs_are)
     pairs_shown (Err Missing) h = unseen_are ∙ h
     pairs_shown (Err Memory) h = tt
@@ -112,7 +112,7 @@ module _ (p : QueryPlan) (ts : List RowTree) (tree : RowTree) (tree_is : tree �
     left_seen : is_unseen first (plan_need p first) ≡ false
     left_seen = ap (λ t. is_none (seen (plan_need p t) t)) (sym tree_is) ∙ ap is_none found
 
-    pub run_done : (r : Result Ran ScanFault) (shown : Shown) → Shows (Ok shown) p lefts (right_tree p.query.bound_sources ts) → RanOf r p (plan_need p tree) shown → Runs r p ts
+    pub run_done : (r : Result Ran ScanFault) (shown : RowsAndNeeds) → Shows (Ok shown) p lefts (right_tree p.query.bound_sources ts) → RanOf r p (plan_need p tree) shown → Runs r p ts
     run_done (Ok ran) shown s h = (
       or_from (is_unseen first (plan_need p first)) (list_any (is_unseen (right_tree p.query.bound_sources ts)) (needs_of p (lefts_seen p first))) left_seen
           (ap (λ ls. list_any (is_unseen (right_tree p.query.bound_sources ts)) (needs_of p ls)) (sym same_lefts) ∙ s.0),

@@ -14,7 +14,7 @@ use Rattle.vo_spec.specs.Needs.{seen_row_views, tables_used, tree_at, right_tree
 use Rattle.query_plan.specs.Plans.{QueryPlan, plan_need, has_join_value, right_need_of, meets_left}
 use Rattle.query_plan.specs.Answers.{pair_answers, unlimited_rows, plan_rows}
 use Rattle.plan_run.specs.declared.ran.Ran.{Ran}
-use Rattle.plan_run.specs.declared.left_views.Shown.{Shown}
+use Rattle.plan_run.specs.declared.left_views.RowsAndNeeds.{RowsAndNeeds}
 
 -- the scan for the need stops
 abbrev pub is_unseen : RowTree → Need → Bool
@@ -79,7 +79,7 @@ Runs (Err Missing) p trees = stops p trees ≡ true
 Runs (Err Memory) p trees = Unit {0}
 
 -- the same of left rows that are given, whatever the limit
-abbrev pub Shows : Result Shown ScanFault → QueryPlan → List RowView → RowTree → Type 0
+abbrev pub Shows : Result RowsAndNeeds ScanFault → QueryPlan → List RowView → RowTree → Type 0
 Shows (Ok shown) p lefts tree =
     (list_any (is_unseen tree) (needs_of p lefts) ≡ false)
     × (shown.rows.items ≡ unlimited_rows p lefts (rights_seen p tree))
@@ -88,7 +88,7 @@ Shows (Err Missing) p lefts tree = list_any (is_unseen tree) (needs_of p lefts) 
 Shows (Err Memory) p lefts tree = Unit {0}
 
 -- and of those of a join
-abbrev pub ShowsPairs : Result Shown ScanFault → QueryPlan → ColumnPlace × ColumnPlace
+abbrev pub ShowsPairs : Result RowsAndNeeds ScanFault → QueryPlan → ColumnPlace × ColumnPlace
     → List RowView → RowTree → Type 0
 ShowsPairs (Ok shown) p on lefts tree =
     (list_any (stops_at p on tree) lefts ≡ false)
@@ -99,7 +99,8 @@ ShowsPairs (Err Missing) p on lefts tree = list_any (stops_at p on tree) lefts �
 ShowsPairs (Err Memory) p on lefts tree = Unit {0}
 
 -- one left row more
-abbrev pub AddsPairs : Result (Unit {0}) ScanFault → Shown → Shown → QueryPlan → ColumnPlace
+abbrev pub AddsPairs : Result (Unit {0}) ScanFault → RowsAndNeeds → RowsAndNeeds → QueryPlan
+    → ColumnPlace
     × ColumnPlace → RowView → RowTree → Type 0
 AddsPairs (Ok done) old new p on left tree =
     (stops_at p on tree left ≡ false)
@@ -110,7 +111,7 @@ AddsPairs (Err Missing) old new p on left tree = stops_at p on tree left ≡ tru
 AddsPairs (Err Memory) old new p on left tree = Unit {0}
 
 -- the first rows of what was shown, with this need of the left tree
-abbrev pub RanOf : Result Ran ScanFault → QueryPlan → Need → Shown → Type 0
+abbrev pub RanOf : Result Ran ScanFault → QueryPlan → Need → RowsAndNeeds → Type 0
 RanOf (Ok ran) p left shown = (ran.rows ≡ first_rows p.query.limit shown.rows.items)
     × (ran.needs ≡ group_needs p.query.bound_sources left shown.needs.items)
 RanOf (Err Missing) p left shown = ⊥

@@ -10,7 +10,7 @@ ghost use Rattle.query_plan.specs.PlanViews.{plan_seen};
 ghost use Rattle.plan_run.specs.RowViews.{row_view_seen};
 ghost use Rattle.plan_run.specs.Running.{ShowsPairs, AddsPairs};
 
-use crate::left_views::Shown;
+use crate::left_views::RowsAndNeeds;
 use crate::row_views::SeenRowView;
 use mb_tree::PartTree;
 use query_plan::{BoundJoin, Plan, has_join_value, push_pair, right_need};
@@ -56,7 +56,7 @@ fn push_left(
     schema: &Schema,
     tree: &PartTree<'_>,
     left: &SeenRowView<'_>,
-    shown: &mut Shown,
+    shown: &mut RowsAndNeeds,
 ) -> Result<(), ScanFault>
     requires { schema.now ≡ schema_at (bound_sources_seen plan.now.query.now.bound_sources) 1 }
     ensures { AddsPairs result shown.old shown.new (plan_seen plan.now) (join_seen join)
@@ -80,12 +80,12 @@ pub(crate) fn show_pairs(
     schema: &Schema,
     tree: &PartTree<'_>,
     lefts: &[SeenRowView<'_>],
-) -> Result<Shown, ScanFault>
+) -> Result<RowsAndNeeds, ScanFault>
     requires { schema.now ≡ schema_at (bound_sources_seen plan.now.query.now.bound_sources) 1 }
     ensures { ShowsPairs result (plan_seen plan.now) (join_seen join) (map row_view_seen lefts.now)
         (part_of tree.now) }
 {
-    let mut shown = Shown {
+    let mut shown = RowsAndNeeds {
         rows: Vec::new(alloc),
         needs: Vec::new(alloc),
     };

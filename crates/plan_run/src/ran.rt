@@ -4,7 +4,7 @@ ghost use Rattle.query_binding.specs.HeldSources.{bound_sources_seen};
 ghost use Rattle.query_plan.specs.PlanViews.{plan_seen};
 ghost use Rattle.plan_run.specs.Running.{RanOf, group_needs};
 
-use crate::left_views::Shown;
+use crate::left_views::RowsAndNeeds;
 use query_plan::{BoundSources, Plan, has_one_tree, keep_first_rows};
 use std::alloc::{AllocError, Global};
 use vo_spec::{List, Need, ScanFault, Value};
@@ -47,11 +47,11 @@ pub(crate) fn ran_of(
     alloc: Global,
     plan: &Plan<'_, '_>,
     left: Need,
-    shown: Shown,
+    shown: RowsAndNeeds,
 ) -> Result<Ran, ScanFault>
     ensures { RanOf result (plan_seen plan.now) left shown }
 {
-    let Shown { mut rows, needs } = shown;
+    let RowsAndNeeds { mut rows, needs } = shown;
     keep_first_rows(plan.query.limit, &mut rows);
     Ok(Ran {
         rows: List::from_vec(rows),

@@ -26,14 +26,14 @@ impl RowView for SeenRowView<'_> {
             let kind = kind_at(self.schema.columns.as_slice(), column);
             value_of_key(kind, self.row.key.as_bytes())
         } else {
-            let place = place_of(self.cells, cell_number(key, column));
+            let place = place_in_need(self.cells, cell_number(key, column));
             value_at(self.row.values.as_slice(), place)
         }
     }
 }
 
 /// The place of the cell among those of a need, or else how many there are.
-fn place_of(cells: &[u8], cell: usize) -> usize
+fn place_in_need(cells: &[u8], cell: usize) -> usize
     ensures { result ≡ position_or_len (λ c. c == cell) cells.now }
 {
     let mut place = 0;

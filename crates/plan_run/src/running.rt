@@ -10,7 +10,7 @@ ghost use Rattle.query_plan.specs.PlanViews.{plan_seen};
 ghost use Rattle.plan_run.specs.Running.{Shows, Runs, run_rows};
 
 use crate::left_tree::left_need;
-use crate::left_views::Shown;
+use crate::left_views::RowsAndNeeds;
 use crate::ran::{Ran, ran_of};
 use crate::seeing::lefts_of;
 use crate::showing::{rows_alone, show};
@@ -26,7 +26,7 @@ fn show_seen(
     plan: &Plan<'_, '_>,
     trees: &[PartTree<'_>],
     seen: &[SeenRow],
-) -> Result<Shown, ScanFault>
+) -> Result<RowsAndNeeds, ScanFault>
     requires { length trees.now ≡ length
         (tables_used (bound_sources_seen plan.now.query.now.bound_sources)) }
     ensures { Shows result (plan_seen plan.now)

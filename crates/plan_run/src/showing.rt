@@ -10,7 +10,7 @@ ghost use Rattle.plan_run.specs.RowViews.{row_view_seen};
 ghost use Rattle.query_plan.specs.Answers.{answer_at};
 ghost use Rattle.plan_run.specs.Running.{Shows};
 
-use crate::left_views::Shown;
+use crate::left_views::RowsAndNeeds;
 use crate::pairs::show_pairs;
 use crate::row_views::SeenRowView;
 use mb_tree::PartTree;
@@ -39,12 +39,12 @@ fn show_alone(
     alloc: Global,
     plan: &Plan<'_, '_>,
     lefts: &[SeenRowView<'_>],
-) -> Result<Shown, ScanFault>
+) -> Result<RowsAndNeeds, ScanFault>
     requires { plan.now.query.now.join ≡ None }
     ensures { (tree : RowTree) → Shows result (plan_seen plan.now)
         (map row_view_seen lefts.now) tree }
 {
-    Ok(Shown {
+    Ok(RowsAndNeeds {
         rows: rows_alone(alloc, plan, lefts)?,
         needs: Vec::new(alloc),
     })
@@ -74,7 +74,7 @@ pub(crate) fn show(
     plan: &Plan<'_, '_>,
     trees: &[PartTree<'_>],
     lefts: &[SeenRowView<'_>],
-) -> Result<Shown, ScanFault>
+) -> Result<RowsAndNeeds, ScanFault>
     requires { length trees.now ≡ length
         (tables_used (bound_sources_seen plan.now.query.now.bound_sources)) }
     ensures { Shows result (plan_seen plan.now) (map row_view_seen lefts.now)

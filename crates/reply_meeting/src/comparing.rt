@@ -2,7 +2,7 @@
 ghost use Rattle.std.specs.Prelude.{◌≡◌, IfOk};
 ghost use Rattle.vo_spec.specs.Conditions.{query_of};
 ghost use Rattle.vo_spec.specs.Replies.{FitsReply};
-ghost use Rattle.vo_format.specs.View.{reply_of, trees_of};
+ghost use Rattle.vo_format.specs.View.{reply_of, row_trees_of};
 ghost use Rattle.tree_collide.specs.Agreements.{HoldsOrCollides};
 ghost use Rattle.tree_collide.specs.Preimages.{AreOfTrees};
 ghost use Rattle.reply_meeting.specs.Accepting.{HasPassed};
@@ -31,8 +31,8 @@ fn compare_trees(
     requires second_passed { HasPassed (query_of query.now) (reply_of second.now) }
     requires same { first.now.catalog ≡ second.now.catalog }
     ensures { IfOk result (λ found.
-        HoldsOrCollides found (trees_of first.now.trees ≡ trees_of second.now.trees)
-        (AreOfTrees (trees_of first.now.trees) (trees_of second.now.trees))) }
+        HoldsOrCollides found (row_trees_of first.now.trees ≡ row_trees_of second.now.trees)
+        (AreOfTrees (row_trees_of first.now.trees) (row_trees_of second.now.trees))) }
 {
     if are_all_same(first.trees.as_slice(), second.trees.as_slice()) {
         return Ok(None);

@@ -5,8 +5,8 @@ use Rattle.reply_stream.specs.declared.trees_summary.TreesSummary.{TreesSummary}
 use Rattle.reply_stream.specs.declared.trees_stream.TreesStream.{TreesStream}
 use Rattle.reply_stream.specs.ReplyTrees.{rest_of_trees, CanBecomeTrees, IsStateBehind, held_at}
 
-abbrev pub trees_of : TreesStream → List ℕ → Option TreesSummary
-trees_of stream bytes = rest_of_trees stream.state bytes
+abbrev pub trees_summary_of : TreesStream → List ℕ → Option TreesSummary
+trees_summary_of stream bytes = rest_of_trees stream.state bytes
 
 -- some bytes make trees of it
 abbrev pub CanEnd : TreesStream → Type 0

@@ -160,7 +160,7 @@ fn after_fault(fault: ReadFault) -> Result<HeadState, AllocError>
     }
 }
 
-fn next_state(alloc: Global, state: HeadState, token: &[u8]) -> Result<HeadState, AllocError>
+fn next_head_state(alloc: Global, state: HeadState, token: &[u8]) -> Result<HeadState, AllocError>
     requires { size_of_field state ≡ Some (length token.now) }
     ensures yields { IfOk result (λ next. Yields next (λ rest.
         rest_of_head state (token.now ++ rest))) }
@@ -194,6 +194,6 @@ pub(crate) fn take_field(
     ensures err { OnErr result (state.new ≡ HeadState.Invalid) }
 {
     let current = mem::replace(state, HeadState::Invalid);
-    *state = next_state(alloc, current, token)?;
+    *state = next_head_state(alloc, current, token)?;
     Ok(())
 }

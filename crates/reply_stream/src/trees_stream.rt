@@ -22,11 +22,12 @@ pub struct TreesStream {
 }
 
 impl TreesStream {
-    ghost use Rattle.reply_stream.specs.TreesStreams.{CanEnd, IsBehind, held_in, trees_of};
+    ghost use Rattle.reply_stream.specs.TreesStreams.{CanEnd, IsBehind, held_in, trees_summary_of};
 
     /// A reader that was given no bytes, of trees the first of which is read for a target.
     pub fn new(target: Target) -> TreesStream
-        ensures trees { (bytes : List ℕ) → trees_of result bytes ≡ whole (trees_at target bytes) }
+        ensures trees { (bytes : List ℕ)
+            → trees_summary_of result bytes ≡ whole (trees_at target bytes) }
         ensures behind { IsBehind target result [] }
     {
         TreesStream {
@@ -38,17 +39,17 @@ impl TreesStream {
     pub fn feed(&mut self, alloc: Global, piece: &[u8]) -> Result<(), AllocError>
         // It is as if the piece had stood in front of the bytes to come.
         ensures ok { OnOk result ((more : List ℕ)
-            → trees_of self.new more ≡ trees_of self.old (piece.now ++ more)) }
+            → trees_summary_of self.new more ≡ trees_summary_of self.old (piece.now ++ more)) }
 
         ensures behind { OnOk result ((target : PlainTarget) (bytes : List ℕ)
             → IsBehind target self.old bytes → IsBehind target self.new (bytes ++ piece.now)) }
 
         // Where memory ran out, no trees come of it any more.
-        ensures err { OnErr result ((more : List ℕ) → trees_of self.new more ≡ None) }
+        ensures err { OnErr result ((more : List ℕ) → trees_summary_of self.new more ≡ None) }
 
         // Memory runs out only while the bytes so far can still become trees.
         ensures way { IsErr result → CanEnd self.old }
-        ensures dead { ((more : List ℕ) → IsBytes more → trees_of self.old more ≡ None)
+        ensures dead { ((more : List ℕ) → IsBytes more → trees_summary_of self.old more ≡ None)
             → IsOk result }
 
         // It runs out only at a byte of the piece that is of a row of the first tree whose key is
@@ -76,8 +77,8 @@ impl TreesStream {
     fn feed_count(&mut self, alloc: Global, piece: &[u8]) -> Result<(), AllocError>
         requires { awaits_count self.old.state ≡ true }
         ensures ok { OnOk result ((more : List ℕ)
-            → trees_of self.new more ≡ trees_of self.old (piece.now ++ more)) }
-        ensures err { OnErr result ((more : List ℕ) → trees_of self.new more ≡ None) }
+            → trees_summary_of self.new more ≡ trees_summary_of self.old (piece.now ++ more)) }
+        ensures err { OnErr result ((more : List ℕ) → trees_summary_of self.new more ≡ None) }
         ensures way { IsErr result → CanEnd self.old }
         ensures behind { OnOk result ((target : PlainTarget) (bytes : List ℕ)
             → IsBehind target self.old bytes → IsBehind target self.new (bytes ++ piece.now)) }
@@ -103,7 +104,7 @@ impl TreesStream {
             → HasNeededAndToken target.interval bytes result }
 
         // Behind the last tree these are all rows that were found, or more.
-        ensures found { (summary : PlainSummary) → trees_of self.now [] ≡ Some summary
+        ensures found { (summary : PlainSummary) → trees_summary_of self.now [] ≡ Some summary
             → min (first_count summary.first) (2 ^ 64 - 1) ≤ result }
     {
         match &self.state {
@@ -116,7 +117,7 @@ impl TreesStream {
 
     /// How many trees there are and what was found in the first one, where the last has ended.
     pub fn end(self) -> Option<TreesSummary>
-        ensures { result ≡ trees_of self [] }
+        ensures { result ≡ trees_summary_of self [] }
     {
         let TreesStream { state } = self;
         match state {

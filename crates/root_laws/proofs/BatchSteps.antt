@@ -24,7 +24,7 @@ use Rattle.stored_tables.proofs.StandingLaws.{kept_standing}
 use Rattle.stored_tables.proofs.WorkLaws.{work_refused, gives_plain}
 use Rattle.owner_roots.specs.declared.owner_fault.OwnerFault.{OwnerFault}
 use Rattle.owner_roots.specs.declared.owner_fault.OwnerFault.TheVariants.{Command as Refused}
-use Rattle.owner_roots.specs.Next.{tables_after, trees_taken, tables_from, roots_with, next_roots}
+use Rattle.owner_roots.specs.Next.{catalog_after, trees_taken, tables_from, roots_with, next_roots}
 use Rattle.owner_roots.specs.Owners.{honest_roots}
 use Rattle.root_laws.specs.HonestRoots.{honest_next_roots}
 use Rattle.root_laws.specs.Following.{IsProofFault, TakeParts, IsOrRefusesProof}
@@ -52,7 +52,7 @@ followed_from index (c ∷ cs) trees stored fits standing parts =
           subst (λ r. IsOrRefusesProof (and_then next r) (tables_by_work (and_then (work_from (index + 1) cs) (numbered_work index (work c stored))))) (sym exact)
           (step (work c stored) refl parts.1
           (λ after e rest. followed_from (index + 1) cs (drop (trees_taken c) trees) after fits.1 (kept_standing c stored after fits.0 standing e) rest))
-      | inr refuses ↦ inr (refuses_then next (tables_after index c trees (map catalog_table stored)) refuses)
+      | inr refuses ↦ inr (refuses_then next (catalog_after index c trees (map catalog_table stored)) refuses)
     ]
   where
     next : List CatalogTable → Result (List CatalogTable) OwnerFault

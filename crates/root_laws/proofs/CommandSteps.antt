@@ -29,7 +29,7 @@ use Rattle.owner_roots.specs.declared.owner_fault.OwnerFault.{OwnerFault}
 use Rattle.owner_roots.specs.declared.owner_fault.OwnerFault.TheVariants.{Command as Refused}
 use Rattle.row_works.specs.Operations.{set_cell, operation, changed_tree}
 use Rattle.row_works.proofs.OperationLaws.{same_tree}
-use Rattle.owner_roots.specs.Next.{table_after, tables_changed, tables_after, trees_taken}
+use Rattle.owner_roots.specs.Next.{table_after, tables_changed, catalog_after, trees_taken}
 use Rattle.root_laws.specs.Following.{IsProofFault, PrunesTable, TakesPart, IsOrRefusesProof}
 use Rattle.root_laws.proofs.TablePlaces.{table_headers_same, change_table, changed_at_place, put_at_place, names_rise, removed_at_place}
 use Rattle.root_laws.proofs.TableSteps.{table_by_tree, tables_by_trees, table_found, changed_exactly, change_refused}
@@ -147,8 +147,8 @@ abbrev pub fault_of : ℕ → Option CommandFault → Option OwnerFault
 fault_of index refused = option_map_or (λ why. Some (Refused index why)) refused None
 
 pub command_followed : (index : ℕ) (c : Command) (trees : List RowTree) (stored : List Stored) (tables : List Table) → RepresentTables stored tables → FitTables tables
-    → TakesPart c trees stored → IsOrRefusesProof (tables_after index c trees (map catalog_table stored)) (tables_by_trees index (work c stored))
-unfolding tables_after work
+    → TakesPart c trees stored → IsOrRefusesProof (catalog_after index c trees (map catalog_table stored)) (tables_by_trees index (work c stored))
+unfolding catalog_after work
 command_followed index c trees stored tables zs good parts =
     subst (λ hs. IsOrRefusesProof (and_then (tables_changed index c trees) (unless (fault_of index (refusal c hs)) (map catalog_table stored)))
     (tables_by_trees index (and_then (changed_trees c) (unless (refusal c (map stored_table_header stored)) stored))))
@@ -160,8 +160,8 @@ command_followed index c trees stored tables zs good parts =
     step (Some why) = inl refl
 
 pub command_proved : (index : ℕ) (c : Command) (others : List RowTree) (stored : List Stored) (tables : List Table) → RepresentTables stored tables → FitTables tables
-    → tables_after index c (command_proof c stored ++ others) (map catalog_table stored) ≡ tables_by_trees index (work c stored)
-unfolding tables_after work
+    → catalog_after index c (command_proof c stored ++ others) (map catalog_table stored) ≡ tables_by_trees index (work c stored)
+unfolding catalog_after work
 command_proved index c others stored tables zs good =
     ap (λ hs. and_then (tables_changed index c (command_proof c stored ++ others)) (unless (fault_of index (refusal c hs)) (map catalog_table stored))) (table_headers_same stored)
     ∙ step (refusal c (map stored_table_header stored))
@@ -174,7 +174,7 @@ command_proved index c others stored tables zs good =
 
 -- one that isn't refused is done on the trees too
 pub command_accepted : (index : ℕ) (c : Command) (trees : List RowTree) (stored : List Stored) (tables : List Table) (after : List CatalogTable) → RepresentTables stored tables → FitTables tables
-    → TakesPart c trees stored → tables_after index c trees (map catalog_table stored) ≡ Ok after
+    → TakesPart c trees stored → catalog_after index c trees (map catalog_table stored) ≡ Ok after
     → (new : List Stored) × (work c stored ≡ Ok new) × (after ≡ (catalog_of new).tables)
 command_accepted index c trees stored tables after zs good parts e =
     elim (command_followed index c trees stored tables zs good parts) [
@@ -188,8 +188,8 @@ command_accepted index c trees stored tables after zs good parts e =
 
 -- refused by the catalog, whatever the trees are
 pub command_refused : (index : ℕ) (c : Command) (trees : List RowTree) (stored : List Stored) (why : CommandFault) → refusal c (map stored_table_header stored) ≡ Some why
-    → tables_after index c trees (map catalog_table stored) ≡ Err (Refused index why)
-unfolding tables_after
+    → catalog_after index c trees (map catalog_table stored) ≡ Err (Refused index why)
+unfolding catalog_after
 command_refused index c trees stored why e =
     ap (λ hs. and_then (tables_changed index c trees) (unless (fault_of index (refusal c hs)) (map catalog_table stored))) (table_headers_same stored)
     ∙ ap (λ r. and_then (tables_changed index c trees) (unless (fault_of index r) (map catalog_table stored))) e

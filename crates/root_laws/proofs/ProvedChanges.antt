@@ -38,7 +38,7 @@ use Rattle.stored_tables.specs.Plain.{catalog_table}
 use Rattle.owner_roots.specs.declared.owner_fault.OwnerFault.{OwnerFault}
 use Rattle.owner_roots.specs.declared.owner_fault.OwnerFault.TheVariants as fault
 use Rattle.row_works.specs.Operations.{changed_tree, changed_count}
-use Rattle.owner_roots.specs.Forms.{has_form}
+use Rattle.owner_roots.specs.Forms.{has_schema_form}
 use Rattle.owner_roots.specs.Next.{with_root, proof_fault, table_by_change, table_after}
 use Rattle.root_laws.specs.Following.{IsOrRefusesProof}
 use Rattle.root_laws.proofs.TableForms.{part_has_form}
@@ -125,7 +125,7 @@ module _ (index : ℕ) (s : Stored) (op : Op) where
   pub table_followed : (rows : List Row) (p : RowTree) (others : List RowTree) → Represents s.tree rows → Prunes p s.tree
       → IsOrRefusesProof (table_after index (catalog_table s) op (p ∷ others)) (table_by_tree index s (changed_tree op s.tree))
   table_followed rows p others stands prunes =
-      step (not (has_form s.schema p)) (not (bytes_eq (digest s.tree) (digest p))) (update_is_missing op p) (update_has_surplus op p)
+      step (not (has_schema_form s.schema p)) (not (bytes_eq (digest s.tree) (digest p))) (update_is_missing op p) (update_has_surplus op p)
       (ap not (root_same p prunes)) refl refl
     where
       found : Bool → Bool → Bool → Bool → Option OwnerFault

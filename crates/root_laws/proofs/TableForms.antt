@@ -26,7 +26,7 @@ use Rattle.vo_laws.proofs.ListLaws.{each_left, each_right, each_both}
 use Rattle.vo_laws.specs.FittingTables.{FitsTable, HasKinds}
 use Rattle.vo_laws.proofs.ReplyTrees.{HasCells}
 use Rattle.vo_laws.proofs.NamedFits.{NamedFits, cells_of, named_fits}
-use Rattle.owner_roots.specs.Forms.{has_cell_count, entry_has_form, has_form}
+use Rattle.owner_roots.specs.Forms.{has_cell_count, entry_has_form, has_schema_form}
 
 abbrev HasForm : Schema → PartEntry → Type 0
 HasForm schema e = entry_has_form schema e ≡ true
@@ -96,8 +96,8 @@ all_pass : (schema : Schema) (es : List PartEntry) → AllByRecursion (HasForm s
 all_pass schema [] h = refl
 all_pass schema (e ∷ es) h = and_from (entry_has_form schema e) (list_all (entry_has_form schema) es) h.0 (all_pass schema es h.1)
 
-pub part_has_form : (s : Stored) (t : Table) (p : RowTree) → RepresentsTable s t → FitsTable t → Prunes p s.tree → has_form s.schema p ≡ true
+pub part_has_form : (s : Stored) (t : Table) (p : RowTree) → RepresentsTable s t → FitsTable t → Prunes p s.tree → has_schema_form s.schema p ≡ true
 part_has_form s t p z fits prunes =
     let rows : AllByRecursion (HasForm t.schema) (map whole_entry t.rows) = rows_form t.schema t.rows fits.schema.key_in fits.kinds (cells_there t fits) in
     let whole : AllByRecursion (HasForm t.schema) (entries s.tree) = subst (AllByRecursion (HasForm t.schema)) (sym z.stands.rows_are) rows in
-    subst (λ schema. has_form schema p ≡ true) (sym z.schema) (all_pass t.schema (entries p) (tree_form t.schema p s.tree prunes whole))
+    subst (λ schema. has_schema_form schema p ≡ true) (sym z.schema) (all_pass t.schema (entries p) (tree_form t.schema p s.tree prunes whole))

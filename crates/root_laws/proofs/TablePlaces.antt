@@ -15,7 +15,7 @@ use Rattle.vo_laws.specs.FittingTables.{names_of}
 use Rattle.stored_tables.specs.Plain.{catalog_table}
 use Rattle.stored_tables.specs.Positions.{is_named}
 use Rattle.owner_roots.specs.declared.owner_fault.OwnerFault.{OwnerFault}
-use Rattle.owner_roots.specs.Next.{table_header, place_of, place_for, tables_with}
+use Rattle.owner_roots.specs.Next.{table_header, table_number, place_for, tables_with}
 
 suc_is : (n : ℕ) → 1 + n ≡ suc n
 suc_is n = omega arith
@@ -55,16 +55,16 @@ module _ (name : List ℕ) (change : CatalogTable → Result CatalogTable OwnerF
   next_changed t tables place None = refl
   next_changed t tables place (Some u) = next_set t tables place (change u)
 
-  pub changed_at_place : (tables : List CatalogTable) → change_at (place_of name tables) tables ≡ change_table tables
+  pub changed_at_place : (tables : List CatalogTable) → change_at (table_number name tables) tables ≡ change_table tables
   changed_at_place [] = refl
   changed_at_place (t ∷ tables) = step (bytes_eq t.name name) (changed_at_place tables)
     where
-      step : (b : Bool) → change_at (place_of name tables) tables ≡ change_table tables
-          → change_at (cond (not b) (1 + place_of name tables) 0) (t ∷ tables) ≡ cond b (with_table tables (change t)) (behind_table t (change_table tables))
+      step : (b : Bool) → change_at (table_number name tables) tables ≡ change_table tables
+          → change_at (cond (not b) (1 + table_number name tables) 0) (t ∷ tables) ≡ cond b (with_table tables (change t)) (behind_table t (change_table tables))
       step true rest = first_set t tables (change t)
       step false rest =
-          ap (λ i. change_at i (t ∷ tables)) (suc_is (place_of name tables))
-          ∙ next_changed t tables (place_of name tables) (slice_get tables (place_of name tables)) ∙ ap (behind_table t) rest
+          ap (λ i. change_at i (t ∷ tables)) (suc_is (table_number name tables))
+          ∙ next_changed t tables (table_number name tables) (slice_get tables (table_number name tables)) ∙ ap (behind_table t) rest
 
 -- A table is made, or dropped.
 
@@ -99,16 +99,16 @@ others_stay name [] all = refl
 others_stay name (s ∷ stored) all = rw (other_back s.name name all.0, others_stay name stored all.1) refl
 
 pub removed_at_place : (name : List ℕ) (stored : List Stored) → AreRising (stored_names stored)
-    → remove (map catalog_table stored) (place_of name (map catalog_table stored)) ≡ map catalog_table (filter (λ s. not (is_named name s)) stored)
+    → remove (map catalog_table stored) (table_number name (map catalog_table stored)) ≡ map catalog_table (filter (λ s. not (is_named name s)) stored)
 removed_at_place name [] r = refl
 removed_at_place name (s ∷ stored) r = step (bytes_eq s.name name) refl (removed_at_place name stored r.1)
   where
     step : (b : Bool) → bytes_eq s.name name ≡ b
-        → remove (map catalog_table stored) (place_of name (map catalog_table stored)) ≡ map catalog_table (filter (λ s. not (is_named name s)) stored)
-        → remove (catalog_table s ∷ map catalog_table stored) (cond (not b) (1 + place_of name (map catalog_table stored)) 0)
+        → remove (map catalog_table stored) (table_number name (map catalog_table stored)) ≡ map catalog_table (filter (λ s. not (is_named name s)) stored)
+        → remove (catalog_table s ∷ map catalog_table stored) (cond (not b) (1 + table_number name (map catalog_table stored)) 0)
         ≡ map catalog_table (cond (not b) (s ∷ filter (λ s. not (is_named name s)) stored) (filter (λ s. not (is_named name s)) stored))
     step true e rest =
         let same : s.name ≡ name = (bytes_eq-Decides s.name name).0 e in
         ap (map catalog_table) (sym (others_stay name stored (subst (λ n. AllByRecursion (λ k. key_lt n k ≡ true) (stored_names stored)) same r.0)))
     step false e rest =
-        ap (remove (catalog_table s ∷ map catalog_table stored)) (suc_is (place_of name (map catalog_table stored))) ∙ ap (λ tables. catalog_table s ∷ tables) rest
+        ap (remove (catalog_table s ∷ map catalog_table stored)) (suc_is (table_number name (map catalog_table stored))) ∙ ap (λ tables. catalog_table s ∷ tables) rest

@@ -17,8 +17,8 @@ use Rattle.stored_tables.specs.Plain.{catalog_table}
 use Rattle.stored_tables.specs.Positions.{is_named}
 use Rattle.owner_roots.specs.declared.owner_fault.OwnerFault.{OwnerFault}
 use Rattle.owner_roots.specs.declared.owner_fault.OwnerFault.TheVariants as fault
-use Rattle.owner_roots.specs.Forms.{has_form}
-use Rattle.owner_roots.specs.Next.{table_by_change, table_after, tables_changed, tables_after, trees_taken}
+use Rattle.owner_roots.specs.Forms.{has_schema_form}
+use Rattle.owner_roots.specs.Next.{table_by_change, table_after, tables_changed, catalog_after, trees_taken}
 use Rattle.root_laws.proofs.TablePlaces.{table_headers_same, with_table, behind_table, change_table, changed_at_place}
 use Rattle.root_laws.proofs.CommandSteps.{fault_of, insert_op, update_op, delete_op, table_named}
 
@@ -28,7 +28,7 @@ IsTaken c trees stored = (p : RowTree) × (s : Stored) × (slice_get trees 0 ≡
 -- The root is compared.
 
 root_right : (index : ℕ) (t u : CatalogTable) (op : Op) (p : RowTree) (others : List RowTree) → table_after index t op (p ∷ others) ≡ Ok u → digest p ≡ t.root
-root_right index t u op p others e = step (not (has_form t.schema p)) (bytes_eq t.root (digest p)) refl e
+root_right index t u op p others e = step (not (has_schema_form t.schema p)) (bytes_eq t.root (digest p)) refl e
   where
     found : Bool → Bool → Option OwnerFault
     found form root =
@@ -100,9 +100,9 @@ changed_taken index (Delete name column value) trees stored after allowed e one 
     rows_taken index (Delete name column value) (delete_op value) trees stored after there.0 there.1
     (sym (changed_at_place name (λ t. table_after index t (delete_op value t.schema) trees) (map catalog_table stored)) ∙ e)
 
-pub tree_taken : (index : ℕ) (c : Command) (trees : List RowTree) (stored : List Stored) (after : List CatalogTable) → tables_after index c trees (catalog_of stored).tables ≡ Ok after
+pub tree_taken : (index : ℕ) (c : Command) (trees : List RowTree) (stored : List Stored) (after : List CatalogTable) → catalog_after index c trees (catalog_of stored).tables ≡ Ok after
     → trees_taken c ≡ 1 → IsTaken c trees stored
-unfolding tables_after
+unfolding catalog_after
 tree_taken index c trees stored after e one =
     step (refusal c (map stored_table_header stored)) refl
     (sym (ap (λ hs. and_then (tables_changed index c trees) (unless (fault_of index (refusal c hs)) (map catalog_table stored))) (table_headers_same stored)) ∙ e)

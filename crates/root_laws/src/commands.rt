@@ -7,7 +7,7 @@ ghost use Rattle.vo_spec.specs.Batches.{FitsCommand};
 ghost use Rattle.vo_spec.specs.Trees.{RowTree, digest};
 ghost use Rattle.vo_spec.specs.Honest.{Stored, catalog_of, table_of, work};
 ghost use Rattle.stored_tables.specs.Representation.{IsStanding};
-ghost use Rattle.owner_roots.specs.Next.{tables_after, trees_taken};
+ghost use Rattle.owner_roots.specs.Next.{catalog_after, trees_taken};
 ghost use Rattle.root_laws.specs.Following.{IsOrRefusesProof, TakesPart};
 ghost use Rattle.root_laws.specs.HonestRoots.{honest_tables_after};
 
@@ -18,16 +18,16 @@ ghost use Rattle.root_laws.specs.HonestRoots.{honest_tables_after};
 pub fn commands_are_followed()
     ensures followed { (index : ℕ) (c : Command) (trees : List RowTree) (stored : List Stored)
         → IsStanding stored → TakesPart c trees stored
-        → IsOrRefusesProof (tables_after index c trees (catalog_of stored).tables)
+        → IsOrRefusesProof (catalog_after index c trees (catalog_of stored).tables)
         (honest_tables_after index c stored) }
     ensures accepted { (index : ℕ) (c : Command) (trees : List RowTree) (stored : List Stored)
         (tables : List CatalogTable) → IsStanding stored → TakesPart c trees stored
-        → tables_after index c trees (catalog_of stored).tables ≡ Ok tables
+        → catalog_after index c trees (catalog_of stored).tables ≡ Ok tables
         → (after : List Stored) × (work c stored ≡ Ok after)
         × (tables ≡ (catalog_of after).tables) }
     ensures taken { (index : ℕ) (c : Command) (trees : List RowTree) (stored : List Stored)
         (tables : List CatalogTable)
-        → tables_after index c trees (catalog_of stored).tables ≡ Ok tables → trees_taken c ≡ 1
+        → catalog_after index c trees (catalog_of stored).tables ≡ Ok tables → trees_taken c ≡ 1
         → (p : RowTree) × (s : Stored) × (slice_get trees 0 ≡ Some p)
         × (find (λ (r : Stored). bytes_eq r.name (table_of c)) stored ≡ Some s)
         × (digest p ≡ digest s.tree) }

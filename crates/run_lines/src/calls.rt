@@ -3,10 +3,10 @@ use crate::changes::{Changes, run_over_changes};
 use crate::disk_run::run_with_disk;
 use crate::folder::{Attempt, Folder, RunEnd};
 use crate::line::{Frame, Line, Splice, read_line};
+use cli_args::{Command, Commitment, OwnerAudit, Request, Service, read_words};
 use line_pieces::NoAnswer;
 use std::alloc::Global;
 use std::{io, mem};
-use vo_words::{Command, Commitment, OwnerAudit, Request, Service, read_words};
 
 /// The answer to a line.
 pub fn answer(alloc: Global, folder: &mut Folder, line: &str) -> io::Result<String> {

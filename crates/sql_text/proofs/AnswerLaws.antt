@@ -22,7 +22,7 @@ use Rattle.sql_text.specs.Faults.{of_tokens}
 use Rattle.sql_text.specs.Tokens.{sql, IsToken}
 use Rattle.sql_text.specs.Parsing.{ReadsAndLeaves, Reads, left_of}
 use Rattle.sql_text.specs.Queries.{conditions_of}
-use Rattle.sql_text.specs.Texts.{without_places, IsTextOf, place_of, Breaks, HasFault, AnswersText, Accepts, expect_end}
+use Rattle.sql_text.specs.Texts.{without_places, IsTextOf, token_offset, Breaks, HasFault, AnswersText, Accepts, expect_end}
 use Rattle.sql_text.proofs.Good.{is_sql}
 
 pub unplaced_is : (list : List Lexeme) → without_places (map placed_of list) ≡ map token_of list
@@ -45,7 +45,7 @@ module _ {A B : Type 0} (view : B → A) (start : Rule sql A) (good : is_good co
   answer_judged r e =
       subst (λ z. Judges conditions_of 32 start (without_places ps) (at_end z).0 (at_end z).1) e (judged sql is_sql conditions_of start good 32 (without_places ps) real)
 
-  breaks : (s : ParseFault) → FaultsAt conditions_of 32 start (without_places ps) s (without_places (drop n ps)) → Breaks start text s (place_of (drop n ps) (length text))
+  breaks : (s : ParseFault) → FaultsAt conditions_of 32 start (without_places ps) s (without_places (drop n ps)) → Breaks start text s (token_offset (drop n ps) (length text))
   breaks s j = (ps, scanned, n, refl, j)
 
   -- with tokens left behind a value the first of them is the fault
@@ -53,13 +53,13 @@ module _ {A B : Type 0} (view : B → A) (start : Rule sql A) (good : is_good co
   ended_ok x [] e h = (fits, ps, scanned, answer_judged _ h)
   ended_ok x (p ∷ left) e h = (
     fits,
-    subst (λ z. Breaks start text stop.Syntax (place_of z (length text))) e
+    subst (λ z. Breaks start text stop.Syntax (token_offset z (length text))) e
         (breaks stop.Syntax (subst (λ z. FaultsAt conditions_of 32 start (without_places ps) stop.Syntax (without_places z)) (sym e) (answer_judged _ h))),
   )
 
   ended_fault : (s : ParseFault) (left : List Placed) → drop n ps ≡ left → read (reader conditions_of 32) start (without_places ps) ≡ (Err s, without_places left)
       → AnswersText view most start text (expect_end {B = B} (Err (Fault s)) left (length text))
-  ended_fault stop.Syntax left e h = (fits, subst (λ z. Breaks start text stop.Syntax (place_of z (length text))) e (breaks stop.Syntax (subst (λ z. FaultsAt conditions_of 32 start (without_places ps) stop.Syntax (without_places z)) (sym e) (answer_judged _ h))))
+  ended_fault stop.Syntax left e h = (fits, subst (λ z. Breaks start text stop.Syntax (token_offset z (length text))) e (breaks stop.Syntax (subst (λ z. FaultsAt conditions_of 32 start (without_places ps) stop.Syntax (without_places z)) (sym e) (answer_judged _ h))))
   ended_fault stop.Nesting left e h = (fits, _, breaks stop.Nesting (subst (λ z. FaultsAt conditions_of 32 start (without_places ps) stop.Nesting (without_places z)) (sym e) (answer_judged _ h)))
   ended_fault stop.TooMany left e h = (fits, _, breaks stop.TooMany (subst (λ z. FaultsAt conditions_of 32 start (without_places ps) stop.TooMany (without_places z)) (sym e) (answer_judged _ h)))
 

@@ -29,7 +29,7 @@ use Rattle.sql_text.specs.Parsing.{ReadsAndLeaves, Reads, left_of}
 use Rattle.sql_text.specs.Queries.{conditions_of}
 use Rattle.sql_text.specs.Rules.{followed_by}
 use Rattle.sql_text.specs.Commands.{batch, script}
-use Rattle.sql_text.specs.Texts.{without_places, place_of, Breaks, AnswersText, Accepts, expect_end}
+use Rattle.sql_text.specs.Texts.{without_places, token_offset, Breaks, AnswersText, Accepts, expect_end}
 use Rattle.sql_text.specs.Scripts.{closes, commits, has_long, AreShort, IsScript, BreaksScript, HasLongBatch, HasScriptFault, AnswersScript, short_len, ended_script}
 use Rattle.sql_text.proofs.Rounds.{with_front, front_none}
 use Rattle.sql_text.proofs.Repeats.{many_of}
@@ -225,7 +225,7 @@ module _ {B : Type 0} (view : B → List Batch) (text : List ℕ) (ps : List Pla
       ps,
       scanned,
       n,
-      ap (λ z. place_of z (length text)) (sym here_all),
+      ap (λ z. token_offset z (length text)) (sym here_all),
       (
         front,
         split_all front e,

@@ -15,7 +15,7 @@ use Rattle.sql_text.specs.declared.parse_error.ParseError.TheVariants as halt
 use Rattle.sql_text.specs.Limits.{max_nesting, max_script_bytes, max_sql_bytes}
 use Rattle.sql_text.specs.Queries.{conditions_of}
 use Rattle.sql_text.specs.Commands.{script}
-use Rattle.sql_text.specs.Texts.{without_places, place_of, expect_end}
+use Rattle.sql_text.specs.Texts.{without_places, token_offset, expect_end}
 
 -- this token is the `;` of a COMMIT, which stands before it if `committed`
 abbrev pub closes : Bool → Placed → Bool
@@ -47,7 +47,7 @@ IsScript text batches =
 abbrev pub BreaksScript : List ℕ → ParseFault → ℕ → Type 0
 BreaksScript text s at =
     (ps : List Placed) × (tokens_of text ≡ Ok ps)
-    × (n : ℕ) × (at ≡ place_of (drop n ps) (length text))
+    × (n : ℕ) × (at ≡ token_offset (drop n ps) (length text))
     × FaultsAt conditions_of max_nesting script (without_places ps) s (without_places (drop n ps))
     × AreShort (take n ps)
 

@@ -24,15 +24,15 @@ IsTextOf most start text v =
     × IsText conditions_of true max_nesting start (without_places ps) v
 
 -- the place of the first of these tokens, or the text's end
-abbrev pub place_of : List Placed → ℕ → ℕ
-place_of [] end = end
-place_of (p ∷ _) end = p.at
+abbrev pub token_offset : List Placed → ℕ → ℕ
+token_offset [] end = end
+token_offset (p ∷ _) end = p.at
 
 -- the text's tokens have this fault, at this place
 abbrev pub Breaks : {A : Type 0} → Rule sql A → List ℕ → ParseFault → ℕ → Type 0
 Breaks start text s at =
     (ps : List Placed) × (tokens_of text ≡ Ok ps)
-    × (n : ℕ) × (at ≡ place_of (drop n ps) (length text))
+    × (n : ℕ) × (at ≡ token_offset (drop n ps) (length text))
     × FaultsAt conditions_of max_nesting start (without_places ps) s (without_places (drop n ps))
 
 -- when each fault comes: the length first, then the first token that is none, then the first token
@@ -69,6 +69,6 @@ abbrev pub expect_end : {B : Type 0} → Result B ParseError → List Placed →
 expect_end (Ok x) [] end = Ok x
 expect_end (Ok x) (p ∷ _) end = Err (fault.Syntax p.at)
 expect_end (Err Memory) left end = Err fault.Memory
-expect_end (Err (Fault stop.Syntax)) left end = Err (fault.Syntax (place_of left end))
+expect_end (Err (Fault stop.Syntax)) left end = Err (fault.Syntax (token_offset left end))
 expect_end (Err (Fault stop.Nesting)) left end = Err fault.Nesting
 expect_end (Err (Fault stop.TooMany)) left end = Err fault.TooMany

@@ -6,7 +6,7 @@ ghost use Rattle.vo_spec.specs.Honest.{command_proof, proof_on};
 ghost use Rattle.stored_tables.specs.View.{proof_list, stored_in, stored_of};
 ghost use Rattle.stored_tables.specs.Representation.{IsStanding};
 
-use crate::positions::place_of;
+use crate::positions::table_position;
 use crate::table::StoredTable;
 use mb_tree::PartTree;
 use row_bytes::key_of;
@@ -26,7 +26,7 @@ pub(crate) fn proof_of<'t>(
         ≡ command_proof command.now (stored_in tables.now)) }
     ensures fits { IfOk result (λ proof. AllByRecursion FitsTree (proof_list proof)) }
 {
-    match place_of(tables, command_name(command)) {
+    match table_position(tables, command_name(command)) {
         None => Ok(None),
         Some(place) => proof_on(alloc, place.table, command),
     }

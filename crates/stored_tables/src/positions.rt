@@ -31,7 +31,7 @@ fn has_name(table: &StoredTable, name: &[u8]) -> bool
 }
 
 /// Where the table of this name is.
-pub(crate) fn place_of<'t>(tables: &'t [Rc<StoredTable>], name: &[u8]) -> Option<Position<'t>>
+pub(crate) fn table_position<'t>(tables: &'t [Rc<StoredTable>], name: &[u8]) -> Option<Position<'t>>
     ensures { IsFound name.now (stored_in tables.now) result }
 {
     for at in 0..tables.len() {
@@ -50,7 +50,7 @@ pub(crate) fn table_of<'t>(tables: &'t [Rc<StoredTable>], name: &[u8]) -> Option
         ≡ find (λ s. bytes_eq s.name name.now) (stored_in tables.now) }
     ensures fits { IfSome result (λ table. FitsTree (lent_stored table).tree) }
 {
-    match place_of(tables, name) {
+    match table_position(tables, name) {
         Some(place) => Some(place.table),
         None => None,
     }

@@ -10,7 +10,7 @@ ghost use Rattle.stored_tables.specs.Representation.{IsStanding};
 ghost use Rattle.row_works.specs.Operations.{changes_rows};
 
 use crate::changing::{new_table, replace_table, with_table, without_table};
-use crate::positions::place_of;
+use crate::positions::table_position;
 use crate::refusing::fault_of;
 use crate::row_changes::change_table;
 use crate::table::StoredTable;
@@ -47,7 +47,7 @@ fn change_rows(
     ensures { Returns (λ new. stored_in new.items) result
         (changed_trees command.now (stored_in tables.now)) }
 {
-    match place_of(tables, command_name(command)) {
+    match table_position(tables, command_name(command)) {
         None => unreachable!(),
         Some(place) => match change_table(alloc, place.table, command) {
             Ok(table) => Ok(replace_table(alloc, tables, place.at, table)?),

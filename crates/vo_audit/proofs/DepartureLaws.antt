@@ -13,7 +13,7 @@ use Rattle.vo_spec.specs.Honest.{Stored, catalog_of, work, work_all}
 use Rattle.stored_tables.specs.Representation.{IsStanding}
 use Rattle.owner_roots.specs.declared.owner_fault.OwnerFault.{OwnerFault}
 use Rattle.owner_roots.specs.declared.roots.Roots.{Roots}
-use Rattle.owner_roots.specs.Next.{NextOf, next_roots, roots_with, tables_after, tables_from, trees_taken}
+use Rattle.owner_roots.specs.Next.{NextOf, next_roots, roots_with, catalog_after, tables_from, trees_taken}
 use Rattle.root_laws.specs.Following.{TakesPart}
 use Rattle.owner_roots.specs.Owners.{honest_roots}
 use Rattle.root_laws.proofs.CommandSteps.{command_accepted}
@@ -23,9 +23,9 @@ use Rattle.vo_audit.specs.Departures.{DepartBy, IsDeparture, IsFollowed}
 -- The first command, and those behind it.
 
 pub first_followed : (c : Command) (cs : List Command) (trees : List RowTree) (stored : List Stored) → DepartBy trees stored (c ∷ cs) → IsFollowed trees stored c
-first_followed c cs trees stored d = step (tables_after d.index c trees (catalog_of stored).tables) refl d.followed
+first_followed c cs trees stored d = step (catalog_after d.index c trees (catalog_of stored).tables) refl d.followed
   where
-    step : (r : Result (List CatalogTable) OwnerFault) → tables_after d.index c trees (catalog_of stored).tables ≡ r
+    step : (r : Result (List CatalogTable) OwnerFault) → catalog_after d.index c trees (catalog_of stored).tables ≡ r
         → and_then (tables_from (d.index + 1) cs (drop (trees_taken c) trees)) r ≡ Ok d.after → IsFollowed trees stored c
     step (Ok between) e f = record { index = d.index; after = between; followed = e }
     step (Err why) e f = absurd (cc)
@@ -39,12 +39,12 @@ accepted c trees stored standing is parts =
 pub next_departs : (c : Command) (cs : List Command) (trees : List RowTree) (stored new : List Stored) → IsStanding stored → DepartBy trees stored (c ∷ cs)
     → TakesPart c trees stored → work c stored ≡ Ok new → DepartBy (drop (trees_taken c) trees) new cs
 next_departs c cs trees stored new standing d parts e =
-    step (tables_after d.index c trees (catalog_of stored).tables) refl d.followed
+    step (catalog_after d.index c trees (catalog_of stored).tables) refl d.followed
   where
     left : List RowTree
     left = drop (trees_taken c) trees
 
-    step : (r : Result (List CatalogTable) OwnerFault) → tables_after d.index c trees (catalog_of stored).tables ≡ r
+    step : (r : Result (List CatalogTable) OwnerFault) → catalog_after d.index c trees (catalog_of stored).tables ≡ r
         → and_then (tables_from (d.index + 1) cs left) r ≡ Ok d.after → DepartBy left new cs
     step (Err why) f g = absurd (cc)
     step (Ok between) f g =

@@ -5,7 +5,7 @@ use Rattle.vo_spec.specs.declared.records.CatalogTable.{CatalogTable}
 use Rattle.vo_spec.specs.Trees.{RowTree}
 use Rattle.vo_spec.specs.Honest.{Stored, catalog_of, work_all}
 use Rattle.owner_roots.specs.declared.roots.Roots.{Roots}
-use Rattle.owner_roots.specs.Next.{NextOf, tables_after, tables_from}
+use Rattle.owner_roots.specs.Next.{NextOf, catalog_after, tables_from}
 use Rattle.owner_roots.specs.Owners.{honest_roots}
 
 -- An owner with the roots of these trees follows the batch, by the proofs that these bytes are; and
@@ -28,4 +28,4 @@ pub record DepartBy (trees : List RowTree) (stored : List Stored) (cs : List Com
 pub record IsFollowed (trees : List RowTree) (stored : List Stored) (c : Command) : Type 0 where
   pub index : ℕ
   pub after : List CatalogTable
-  pub followed : tables_after index c trees (catalog_of stored).tables ≡ Ok after
+  pub followed : catalog_after index c trees (catalog_of stored).tables ≡ Ok after

@@ -13,7 +13,7 @@ ghost use Rattle.vo_audit.specs.Showing.{AreFound, Shows, ShowsOf};
 use crate::verdicts::verdict_on;
 use held_replies::{judge, read_within};
 use lms_sign::PublicKey;
-use owner_state::{JournalFault, OwnedJournal, read_owned};
+use owner_state::{JournalReadFault, OwnedJournal, read_owned};
 use std::alloc::Global;
 use vo_format::Reply;
 use vo_spec::{AuditFault, CheckFault, QueryText, Verdict};
@@ -106,7 +106,7 @@ pub fn audit(
     let read = read_within(alloc, reply);
     match read_owned(alloc, key, journal, version_of(&read)) {
         Ok(owned) => audit_read(alloc, key, &owned, query, read),
-        Err(JournalFault::BadAt { index }) => Err(AuditFault::BadJournal { index }),
-        Err(JournalFault::Memory) => Err(AuditFault::Memory),
+        Err(JournalReadFault::BadAt { index }) => Err(AuditFault::BadJournal { index }),
+        Err(JournalReadFault::Memory) => Err(AuditFault::Memory),
     }
 }

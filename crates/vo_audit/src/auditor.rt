@@ -4,7 +4,7 @@ ghost use Rattle.std.specs.Prelude.{◌≡◌, IfOk, IsTrue};
 use crate::auditing::{audit, audit_read};
 use held_replies::read_within;
 use lms_sign::PublicKey;
-use owner_state::{JournalFault, OwnedJournal, read_owned};
+use owner_state::{JournalReadFault, OwnedJournal, read_owned};
 use std::alloc::Global;
 use std::marker::Model;
 use vo_format::Reply;
@@ -53,10 +53,10 @@ impl<'b> Auditor<'b> {
         key: PublicKey,
         journal: &'b [u8],
         version: u64,
-    ) -> Result<Auditor<'b>, JournalFault>
+    ) -> Result<Auditor<'b>, JournalReadFault>
         ensures key { IfOk result (λ auditor. auditor.key ≡ key) }
         ensures journal { IfOk result (λ auditor. auditor.journal ≡ journal.now) }
-        ensures bad { (index : ℕ) → result ≡ Err (JournalFault.BadAt index)
+        ensures bad { (index : ℕ) → result ≡ Err (JournalReadFault.BadAt index)
             → IsBadAt key journal.now index }
     {
         match read_owned(alloc, &key, journal, version) {

@@ -12,5 +12,5 @@ mod verdicts;
 
 pub use auditing::audit;
 pub use auditor::Auditor;
-pub use owner_state::JournalFault;
+pub use owner_state::JournalReadFault;
 pub use vo_spec::{AuditFault, QueryText, Verdict};

@@ -21,7 +21,7 @@ use Rattle.reply_stream.specs.Lengths.{count_up_to_most, excess}
 use Rattle.reply_stream.specs.ReplyHeads.{ReplyHead}
 use Rattle.reply_stream.specs.ReplyParts.{Parts, parts_of, reply_parts}
 use Rattle.reply_stream.specs.ReplyTrees.{trees_at, HasNeededByte}
-use Rattle.reply_stream.specs.TreesStreams.{trees_of, IsBehind as IsBehindHead}
+use Rattle.reply_stream.specs.TreesStreams.{trees_summary_of, IsBehind as IsBehindHead}
 use Rattle.reply_stream.specs.declared.head_stream.HeadStream.{HeadStream}
 use Rattle.reply_stream.specs.HeadFronts.{IsHeadFront}
 use Rattle.reply_stream.specs.HeadStreams.{head_of, IsBehind}
@@ -40,11 +40,11 @@ not_none e = absurd cc
 module _ (q : Query) (head : ReplyHead) where
   -- a head with these bytes behind it, of which the trees are read so
   pub begun : (trees : TreesStream) (bytes left : List ℕ) → ((more : List ℕ) → head_at (bytes ++ more) ≡ Some (head, left ++ more))
-      → ((more : List ℕ) → trees_of trees more ≡ whole (trees_at (plan_for q head) (left ++ more))) → IsBehindHead (plan_for q head) trees left → ReadsTrees q head trees bytes
+      → ((more : List ℕ) → trees_summary_of trees more ≡ whole (trees_at (plan_for q head) (left ++ more))) → IsBehindHead (plan_for q head) trees left → ReadsTrees q head trees bytes
   begun trees bytes left head_is trees_are trees_behind = record { behind = left; head_is = head_is; trees_are = trees_are; trees_behind = trees_behind }
 
   -- a piece more
-  pub fed : (old new : TreesStream) (bytes piece : List ℕ) → ReadsTrees q head old bytes → ((more : List ℕ) → trees_of new more ≡ trees_of old (piece ++ more))
+  pub fed : (old new : TreesStream) (bytes piece : List ℕ) → ReadsTrees q head old bytes → ((more : List ℕ) → trees_summary_of new more ≡ trees_summary_of old (piece ++ more))
       → ((target : Target) (behind : List ℕ) → IsBehindHead target old behind → IsBehindHead target new (behind ++ piece)) → ReadsTrees q head new (bytes ++ piece)
   fed old new bytes piece reads ok moved = record {
     behind = reads.behind ++ piece;
@@ -74,33 +74,33 @@ module _ (q : Query) (head : ReplyHead) where
     with_head found = found >>= λ summary. let parts : Option Parts = Some (head, summary) in parts
 
     -- what comes of the bytes and of more of them
-    pub parts_with : (more : List ℕ) → reply_parts (plan_for q) (bytes ++ more) ≡ with_head (trees_of trees more)
+    pub parts_with : (more : List ℕ) → reply_parts (plan_for q) (bytes ++ more) ≡ with_head (trees_summary_of trees more)
     unfolding reply_parts
     parts_with more =
         ap (λ (o : Option (ReplyHead × List ℕ)). o >>= λ h. whole (trees_at (plan_for q h.0) h.1) >>= λ summary. let parts : Option Parts = Some (h.0, summary) in parts) (reads.head_is more)
         ∙ ap with_head (sym (reads.trees_are more))
 
     -- no trees come of bytes of which no reply comes
-    pub no_trees : IsBytes bytes → ((more : List ℕ) → IsBytes more → IsNoReply (bytes ++ more)) → (more : List ℕ) → IsBytes more → trees_of trees more ≡ None
-    no_trees fits none more more_fit = by (trees_of trees more) refl
+    pub no_trees : IsBytes bytes → ((more : List ℕ) → IsBytes more → IsNoReply (bytes ++ more)) → (more : List ℕ) → IsBytes more → trees_summary_of trees more ≡ None
+    no_trees fits none more more_fit = by (trees_summary_of trees more) refl
       where
-        by : (found : Option TreesSummary) → trees_of trees more ≡ found → found ≡ None
+        by : (found : Option TreesSummary) → trees_summary_of trees more ≡ found → found ≡ None
         by None e = refl
         by (Some summary) e =
             let reply = parts_found (plan_for q) (bytes ++ more) (head, summary) (IsBytes-append bytes more fits more_fit) (parts_with more ∙ ap with_head e) in
             absurd (none more more_fit reply.0 reply.1)
 
-    pub parts_at_end : reply_parts (plan_for q) bytes ≡ with_head (trees_of trees [])
+    pub parts_at_end : reply_parts (plan_for q) bytes ≡ with_head (trees_summary_of trees [])
     parts_at_end = ap (reply_parts (plan_for q)) (sym (append-nil bytes)) ∙ parts_with []
 
     -- Once the last byte came: a reply, with its head and what was found in its trees, or none.
 
-    pub ended : (summary : TreesSummary) → Some summary ≡ trees_of trees [] → IsBytes bytes → (r : Reply) × IsReply bytes r × (parts_of (plan_for q) r ≡ (head, summary))
+    pub ended : (summary : TreesSummary) → Some summary ≡ trees_summary_of trees [] → IsBytes bytes → (r : Reply) × IsReply bytes r × (parts_of (plan_for q) r ≡ (head, summary))
     ended summary is fits =
         let found = parts_found (plan_for q) bytes (head, summary) fits (parts_at_end ∙ ap with_head (sym is)) in
         (found.0, found.1, sym found.2)
 
-    pub none_ended : None ≡ trees_of trees [] → IsNoReply bytes
+    pub none_ended : None ≡ trees_summary_of trees [] → IsNoReply bytes
     none_ended is r reply = not_none (sym (parts_again (plan_for q) bytes r reply) ∙ parts_at_end ∙ ap with_head (sym is))
 
 -- no bytes are no head

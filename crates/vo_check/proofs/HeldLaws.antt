@@ -9,29 +9,29 @@ use Rattle.reply_stream.specs.ReplyHeads.{ReplyHead, head_size}
 use Rattle.reply_stream.specs.ReplyTrees.{HasNeededAndToken, trees_at}
 use Rattle.reply_stream.specs.ReplyParts.{reply_parts}
 use Rattle.reply_stream.specs.declared.trees_summary.TreesSummary.{TreesSummary}
-use Rattle.reply_stream.specs.TreesStreams.{trees_of}
+use Rattle.reply_stream.specs.TreesStreams.{trees_summary_of}
 use Rattle.reply_stream.proofs.KeptRows.{no_bytes_needed}
 use Rattle.tree_stream.specs.declared.target.Target.{Target}
 use Rattle.row_bytes.specs.Fields.{◌>>=◌, whole}
 use Rattle.vo_check.specs.declared.progress.OpenReply.{OpenReply}
 use Rattle.vo_check.specs.declared.progress.Progress.{Progress}
-use Rattle.vo_check.specs.declared.progress.Progress.TheVariants.{Head, Trees, Kept, TooLong, OutOfMemory}
+use Rattle.vo_check.specs.declared.progress.Progress.TheVariants.{Head, Trees, Buffered, TooLong, OutOfMemory}
 use Rattle.vo_check.proofs.CheckingLaws.{parts_at_end}
 use Rattle.vo_check.specs.Streamed.{plan_for}
-use Rattle.vo_check.specs.Streaming.{IsKept, IsStreamed}
+use Rattle.vo_check.specs.Streaming.{IsBuffered, IsStreamed}
 use Rattle.vo_check.specs.Checkings.{HasHead, HoldsNeeded, ReadsTrees, StaysWithin}
 
 pub within_any : (progress : Progress) (bytes : List ℕ) → length bytes ≤ max_reply → StaysWithin progress bytes
 within_any (Head stream) bytes le = le
 within_any (Trees reply) bytes le = le
-within_any (Kept held) bytes le = le
+within_any (Buffered held) bytes le = le
 within_any TooLong bytes le = tt
 within_any OutOfMemory bytes le = tt
 
 some_none : {A : Type 0} (x : A) → Some x ≡ None → ⊥
 some_none x e = cc
 
-pub not_both : (q : Query) → IsStreamed q → IsKept q → ⊥
+pub not_both : (q : Query) → IsStreamed q → IsBuffered q → ⊥
 not_both q streamed kept = kept streamed
 
 -- nothing is held
@@ -93,13 +93,13 @@ pub no_head_at : (stream : HeadStream) (bytes : List ℕ) → head_of stream [] 
 no_head_at stream bytes none same = ap head_at (sym (append-nil bytes)) ∙ sym (same []) ∙ none
 
 pub whole_held : (q : Query) (reply : OpenReply) (bytes : List ℕ) (head : ReplyHead) (trees : TreesSummary) → ReadsTrees q reply.head reply.trees bytes → reply_parts (plan_for q) bytes ≡ Some (head, trees)
-    → (head_size head ≡ head_size reply.head) × (trees_of reply.trees [] ≡ Some trees)
-whole_held q reply bytes head trees reads is = by (trees_of reply.trees []) refl
+    → (head_size head ≡ head_size reply.head) × (trees_summary_of reply.trees [] ≡ Some trees)
+whole_held q reply bytes head trees reads is = by (trees_summary_of reply.trees []) refl
   where
-    all : reply_parts (plan_for q) bytes ≡ (trees_of reply.trees [] >>= λ summary. let parts : Option (ReplyHead × TreesSummary) = Some (reply.head, summary) in parts)
+    all : reply_parts (plan_for q) bytes ≡ (trees_summary_of reply.trees [] >>= λ summary. let parts : Option (ReplyHead × TreesSummary) = Some (reply.head, summary) in parts)
     all = parts_at_end q reply.head reply.trees bytes reads
 
-    by : (o : Option TreesSummary) → trees_of reply.trees [] ≡ o → (head_size head ≡ head_size reply.head) × (trees_of reply.trees [] ≡ Some trees)
+    by : (o : Option TreesSummary) → trees_summary_of reply.trees [] ≡ o → (head_size head ≡ head_size reply.head) × (trees_summary_of reply.trees [] ≡ Some trees)
     by None none = absurd (none_is (sym is ∙ all ∙ ap (λ (o : Option TreesSummary). o >>= λ summary. let parts : Option (ReplyHead × TreesSummary) = Some (reply.head, summary) in parts) none))
       where
         none_is : (let found : Option (ReplyHead × TreesSummary) = Some (head, trees) in found ≡ None) → ⊥

@@ -9,11 +9,11 @@ use Rattle.reply_stream.specs.Heads.{head_at}
 use Rattle.reply_stream.specs.HeadStreams.{head_of, IsBehind}
 use Rattle.reply_stream.specs.ReplyHeads.{ReplyHead, head_size}
 use Rattle.reply_stream.specs.ReplyTrees.{trees_at, HasNeededByte, HasNeededEntries}
-use Rattle.reply_stream.specs.TreesStreams.{trees_of, IsBehind as IsBehindHead}
+use Rattle.reply_stream.specs.TreesStreams.{trees_summary_of, IsBehind as IsBehindHead}
 use Rattle.tree_stream.specs.Tokens.{max_token}
 use Rattle.vo_check.specs.declared.progress.Progress.{Progress}
-use Rattle.vo_check.specs.declared.progress.Progress.TheVariants.{Head, Trees, Kept, TooLong, OutOfMemory}
-use Rattle.vo_check.specs.Streaming.{IsStreamed, IsKept}
+use Rattle.vo_check.specs.declared.progress.Progress.TheVariants.{Head, Trees, Buffered, TooLong, OutOfMemory}
+use Rattle.vo_check.specs.Streaming.{IsStreamed, IsBuffered}
 use Rattle.vo_check.specs.Streamed.{plan_for}
 
 -- a query, the bytes of its reply that came, and whether one of the pieces found no memory
@@ -53,7 +53,7 @@ pub record ReadsTrees (q : Query) (head : ReplyHead) (trees : TreesStream) (byte
   pub behind : List ℕ
   pub head_is : (more : List ℕ) → head_at (bytes ++ more) ≡ Some (head, behind ++ more)
   pub trees_are : (more : List ℕ)
-      → trees_of trees more ≡ whole (trees_at (plan_for q head) (behind ++ more))
+      → trees_summary_of trees more ≡ whole (trees_at (plan_for q head) (behind ++ more))
   pub trees_behind : IsBehindHead (plan_for q head) trees behind
 
 -- the check of a reply to this query is so far behind these bytes
@@ -62,7 +62,7 @@ StandsBehind q (Head stream) bytes = IsStreamed q × (head_of stream [] ≡ None
     × ((more : List ℕ) → head_of stream more ≡ head_at (bytes ++ more)) × IsBehind stream bytes
 StandsBehind q (Trees reply) bytes =
     IsStreamed q × ReadsTrees q reply.head reply.trees bytes
-StandsBehind q (Kept held) bytes = IsKept q × (held.items ≡ bytes)
+StandsBehind q (Buffered held) bytes = IsBuffered q × (held.items ≡ bytes)
 StandsBehind q TooLong bytes = max_reply < length bytes
 StandsBehind q OutOfMemory bytes = Unit {0}
 

@@ -7,5 +7,5 @@ abbrev pub IsStreamed : Query → Type 0
 IsStreamed q = (q.join ≡ None) × (q.limit ≡ None)
 
 -- any other query
-abbrev pub IsKept : Query → Type 0
-IsKept q = IsStreamed q → ⊥
+abbrev pub IsBuffered : Query → Type 0
+IsBuffered q = IsStreamed q → ⊥

@@ -12,7 +12,7 @@ ghost use Rattle.reply_stream.specs.ReplyParts.{reply_parts};
 ghost use Rattle.reply_stream.specs.ReplyTrees.{first_count};
 ghost use Rattle.reply_stream.specs.declared.trees_summary.TreesSummary.{TreesSummary as PlainSummary};
 ghost use Rattle.vo_check.specs.Streamed.{plan_for};
-ghost use Rattle.vo_check.specs.Streaming.{IsKept, IsStreamed};
+ghost use Rattle.vo_check.specs.Streaming.{IsBuffered, IsStreamed};
 ghost use Rattle.vo_check.specs.Checkings.{HasHead, HoldsNeeded, WantsRow, with_piece, without_memory};
 
 use crate::client::Client;
@@ -118,7 +118,7 @@ impl Checking<'_> {
             → min (head_size head + first_count trees.first) (2 ^ 64 - 1) ≤ result }
 
         // Of a reply that is kept they are all,
-        ensures kept { IsKept (query_of self.now.query) → length self.now.bytes ≤ max_reply
+        ensures kept { IsBuffered (query_of self.now.query) → length self.now.bytes ≤ max_reply
             → self.now.is_out_of_memory ≡ false → result ≡ length self.now.bytes }
 
         // and of one over the limit none, nor where a piece found no memory.

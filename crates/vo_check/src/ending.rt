@@ -68,7 +68,7 @@ fn end_within(
 {
     match progress {
         Progress::Trees(reply) => end_reply(alloc, client, query, reply),
-        Progress::Kept(held) => client.answer_whole(alloc, query, &held),
+        Progress::Buffered(held) => client.answer_whole(alloc, query, &held),
         Progress::Head(_) => Err(CheckFault::BadForm),
         // Whatever stands so was counted over the limit.
         Progress::TooLong => Err(CheckFault::BadForm),

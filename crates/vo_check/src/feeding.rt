@@ -25,7 +25,7 @@ pub(crate) fn first_progress(alloc: Global, query: &QueryText) -> Progress
     if is_streamed(query) {
         Progress::Head(HeadStream::new(alloc))
     } else {
-        Progress::Kept(Vec::new(alloc))
+        Progress::Buffered(Vec::new(alloc))
     }
 }
 
@@ -64,7 +64,7 @@ pub(crate) fn feed_progress(
         → IsStreamed (query_of query.now) → (HasHead bytes → ⊥) → IsErr result
         → IsHeadFront bytes }
 {
-    match feed_in_place(progress, alloc, piece) {
+    match feed_behind_head(progress, alloc, piece) {
         Ok(true) => Ok(()),
         Ok(false) => feed_head(progress, alloc, query, piece),
         Err(error) => {
@@ -76,7 +76,11 @@ pub(crate) fn feed_progress(
 
 /// Takes a piece where the progress stands, unless that is of a head, and says whether it did. The
 /// progress of trees is large, and isn't moved for a piece.
-fn feed_in_place(progress: &mut Progress, alloc: Global, piece: &[u8]) -> Result<bool, AllocError>
+fn feed_behind_head(
+    progress: &mut Progress,
+    alloc: Global,
+    piece: &[u8],
+) -> Result<bool, AllocError>
     ensures stands { result ≡ Ok true → (q : Query) (bytes : List ℕ)
         → StandsBehind q progress.old bytes → StandsBehind q progress.new (bytes ++ piece.now) }
     ensures out { result ≡ Ok true
@@ -95,7 +99,7 @@ fn feed_in_place(progress: &mut Progress, alloc: Global, piece: &[u8]) -> Result
             reply.trees.feed(alloc, piece)?;
             Ok(true)
         },
-        Progress::Kept(held) => {
+        Progress::Buffered(held) => {
             held.extend_from_slice(piece)?;
             Ok(true)
         },
@@ -150,13 +154,13 @@ fn progress_behind(
         return Ok(Progress::Head(stream));
     }
     match stream.end() {
-        Some(head) => begin_trees(alloc, query, head, left),
+        Some(head) => open_reply(alloc, query, head, left),
         None => unreachable!(),
     }
 }
 
 /// Begins the trees behind a head, of which these bytes came.
-fn begin_trees(
+fn open_reply(
     alloc: Global,
     query: &QueryText,
     head: Head,

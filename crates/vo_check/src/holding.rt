@@ -8,7 +8,7 @@ ghost use Rattle.reply_stream.specs.ReplyParts.{reply_parts};
 ghost use Rattle.reply_stream.specs.ReplyTrees.{first_count};
 ghost use Rattle.reply_stream.specs.declared.trees_summary.TreesSummary.{TreesSummary as PlainSummary};
 ghost use Rattle.vo_check.specs.Streamed.{plan_for};
-ghost use Rattle.vo_check.specs.Streaming.{IsKept, IsStreamed};
+ghost use Rattle.vo_check.specs.Streaming.{IsBuffered, IsStreamed};
 ghost use Rattle.vo_check.specs.Checkings.{HasHead, HoldsNeeded, StandsBehind, StaysWithin, is_out_of_memory};
 
 use crate::progress::Progress;
@@ -21,7 +21,7 @@ pub(crate) fn held_in(progress: &Progress) -> usize
         ⊎ ((result ≡ 0) × ((more : List ℕ) → head_at (bytes ++ more) ≡ None)) }
     ensures needed { (q : Query) (bytes : List ℕ) → StandsBehind q progress.now bytes
         → IsStreamed q → HasHead bytes → HoldsNeeded q bytes result }
-    ensures kept { (q : Query) (bytes : List ℕ) → StandsBehind q progress.now bytes → IsKept q
+    ensures kept { (q : Query) (bytes : List ℕ) → StandsBehind q progress.now bytes → IsBuffered q
         → length bytes ≤ max_reply → is_out_of_memory progress.now ≡ false
         → result ≡ length bytes }
     ensures found { (q : Query) (bytes : List ℕ) (head : ReplyHead) (trees : PlainSummary)
@@ -36,7 +36,7 @@ pub(crate) fn held_in(progress: &Progress) -> usize
     match progress {
         Progress::Head(stream) => stream.held(),
         Progress::Trees(reply) => reply.head.size().saturating_add(reply.trees.held()),
-        Progress::Kept(held) => held.len(),
+        Progress::Buffered(held) => held.len(),
         Progress::TooLong => 0,
         Progress::OutOfMemory => 0,
     }

@@ -10,7 +10,7 @@ pub(crate) enum Progress {
     /// The catalog's last byte came.
     Trees(OpenReply),
     /// The pieces so far, of a reply to a query with a join or a limit.
-    Kept(Vec<u8>),
+    Buffered(Vec<u8>),
     /// There are more bytes than a reply may have.
     TooLong,
     /// A piece found no memory.

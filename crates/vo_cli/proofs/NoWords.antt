@@ -1,7 +1,7 @@
 -- No words ask for nothing, and so leave disk and network.
 use Rattle.std.proofs.Common.{◌≡◌, refl, ap, [], None, false}
 use Rattle.clap.proofs.OnLiterals.{clap_on_literals}
-use Rattle.vo_words.specs.PlainRequest.{request_in}
+use Rattle.cli_args.specs.PlainRequest.{request_in}
 use Rattle.vo_commands.specs.Expected.{uses_disk, uses_net}
 
 pub no_words : request_in [] ≡ None

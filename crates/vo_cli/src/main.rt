@@ -6,7 +6,7 @@ mod usage;
 ghost use Rattle.std.specs.Prelude.{◌≡◌, ◌≢◌, ◌⊎◌, map, string_bytes, IfOk, IfErr, IfSome};
 ghost use Rattle.std.specs.IoError.{error_kind};
 ghost use Rattle.outside.specs.FaultRose.{FaultRose};
-ghost use Rattle.vo_words.specs.PlainRequest.{request_in};
+ghost use Rattle.cli_args.specs.PlainRequest.{request_in};
 ghost use Rattle.vo_commands.specs.Expected.{Exactly, Ends, expected_of, queue_of, words_refusal};
 ghost use Rattle.vo_commands.specs.Owning.{OwnEnds, own_expected};
 ghost use Rattle.vo_commands.specs.Serving.{ServeEnds, serve_expected};

@@ -1,10 +1,10 @@
 //! The commands, for who has asked for none of them.
 ghost use Rattle.std.specs.Prelude.{◌≡◌, map, string_bytes, None, IsTrue, IfOk};
-ghost use Rattle.vo_words.specs.PlainRequest.{request_in};
+ghost use Rattle.cli_args.specs.PlainRequest.{request_in};
 
+use cli_args::read_words;
 use std::alloc::Global;
 use std::io::{self, ErrorKind};
-use vo_words::read_words;
 
 /// What standard error gets where the words are refused.
 pub const USAGE: &str = "\

@@ -14,7 +14,7 @@ use Rattle.reply_meeting.specs.declared.meeting.MeetFault.TheVariants.{Memory as
 use Rattle.reply_meeting.specs.declared.meeting.MetReplies.{MetReplies}
 use Rattle.reply_meeting.specs.Meetings.{RepliesMeet}
 use Rattle.reply_meeting.specs.Views.{met_of}
-use Rattle.vo_words.specs.Shapes.{PlainShape}
+use Rattle.cli_args.specs.Shapes.{PlainShape}
 use Rattle.vo_commands.specs.declared.report.Report.{Report}
 use Rattle.vo_commands.specs.declared.report.Stop.{Stop}
 use Rattle.vo_commands.specs.declared.report.Stop.TheVariants.{Refused, Outside, Memory}

@@ -5,8 +5,8 @@ use Rattle.std.specs.Str.{bytes_eq, is_utf8}
 use Rattle.outside.specs.Outputs.{Output, outside_failure}
 use Rattle.outside.specs.Shelf.{Files}
 use Rattle.vo_spec.specs.Secret.{Secret, public_of_secret}
-use Rattle.vo_words.specs.Shapes.{PlainShape}
-use Rattle.vo_words.specs.PlainRequest.{PlainRequest, Keygen, Seal, Own, Answer, Serve, Check, Ask, Audit, Explain, Meet, Generate}
+use Rattle.cli_args.specs.Shapes.{PlainShape}
+use Rattle.cli_args.specs.PlainRequest.{PlainRequest, Keygen, Seal, Own, Answer, Serve, Check, Ask, Audit, Explain, Meet, Generate}
 use Rattle.vo_spec.specs.Keys.{is_public_key}
 use Rattle.vo_commands.specs.Lines.{gen_output, input_refusal, success}
 use Rattle.vo_commands.specs.Expected.{Expected, Anything, Exactly, Explains, OfScript, Seals, HoldsEach, file_words, files_of_request, files_expected, with_same_key, script_expected, script_limit, seed_limit, secret_in, with_contents, with_file, with_public, with_secret, words_expected}

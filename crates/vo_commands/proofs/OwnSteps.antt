@@ -21,9 +21,9 @@ use Rattle.owner_state.specs.Stepping.{first_entry}
 use Rattle.owner_session.specs.Requests.{PutsRequests}
 use Rattle.owner_session.specs.Runs.{Snapshot, input_of, snapshot_of}
 use Rattle.owner_session.specs.Sessions.{SessionEnds, SessionIsDone, SessionRuns}
-use Rattle.owner_session.specs.Work.{Deed, Work, session}
+use Rattle.owner_session.specs.SessionWork.{Deed, SessionWork, session}
 use Rattle.sql_text.specs.Scripts.{IsScript}
-use Rattle.vo_words.specs.Shapes.{PlainShape}
+use Rattle.cli_args.specs.Shapes.{PlainShape}
 use Rattle.vo_commands.specs.declared.report.Report.{Report}
 use Rattle.vo_commands.specs.declared.report.Stop.{Stop}
 use Rattle.vo_commands.specs.declared.report.Stop.TheVariants.{Refused, Outside, Memory}
@@ -193,10 +193,10 @@ module _ (batches : List Batch) (NetRose DiskRose OutRose : Type 0) (status : �
   abbrev Last : Snapshot Held Entry
   Last = snapshot_of after later_written later entries
 
-  abbrev EndsSo : Work Held Batch Entry → List (Deed Held Batch Entry) → (Kept : Type 0) → (Entry → Type 0) → Type 0
+  abbrev EndsSo : SessionWork Held Batch Entry → List (Deed Held Batch Entry) → (Kept : Type 0) → (Entry → Type 0) → Type 0
   EndsSo work deeds Kept KeptWith = SessionEnds work NetRose DiskRose OutRose Kept KeptWith status deeds First Last
 
-  ends_kept : (work : Work Held Batch Entry) (deeds : List (Deed Held Batch Entry)) → AreOfVersions entries → Rests old es
+  ends_kept : (work : SessionWork Held Batch Entry) (deeds : List (Deed Held Batch Entry)) → AreOfVersions entries → Rests old es
       → EndsSo work deeds (Rests old es → Rests drive entries) (λ e. Rests old es → LeavesWith drive entries e)
       → EndsSo work deeds (Leaves drive entries) (LeavesWith drive entries) × All (KeepsEntry drive) entries
   ends_kept work deeds are rests (inl (k, done)) =
@@ -277,7 +277,7 @@ commits_over batches NetRose DiskRose OutRose status held later es entries old d
 
 module _ (batches : List Batch) (N M D E OutRose : Type 0) (net : N → M) (disk : D → E) (status : ℕ) (held : Held) (es : List Entry) (drive : Option DiskModel)
     (written later_written : Option (List ℕ)) where
-  ends_later : (work : Work Held Batch Entry) (Kept : Type 0) (KeptWith : Entry → Type 0) (deeds : List (Deed Held Batch Entry)) (first last : Snapshot Held Entry)
+  ends_later : (work : SessionWork Held Batch Entry) (Kept : Type 0) (KeptWith : Entry → Type 0) (deeds : List (Deed Held Batch Entry)) (first last : Snapshot Held Entry)
       → SessionEnds work N D OutRose Kept KeptWith status deeds first last → SessionEnds work M E OutRose Kept KeptWith status deeds first last
   ends_later work Kept KeptWith deeds first last (inl done) = inl done
   ends_later work Kept KeptWith deeds first last (inr (inl (rose, k, stops))) = inr (inl (net rose, k, stops))

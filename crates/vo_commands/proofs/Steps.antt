@@ -3,7 +3,7 @@ use Rattle.std.specs.Prelude.{◌≡◌, ℕ, List, Option, Some, None, IfSome, 
 use Rattle.std.proofs.Common.{◌∙◌}
 use Rattle.outside.specs.Shelf.{Files}
 use Rattle.vo_spec.specs.Secret.{Secret}
-use Rattle.vo_words.specs.Shapes.{PlainShape}
+use Rattle.cli_args.specs.Shapes.{PlainShape}
 use Rattle.vo_commands.specs.declared.report.Stop.{Stop}
 use Rattle.vo_commands.specs.declared.report.Stop.TheVariants.{Refused, Outside, Memory}
 use Rattle.vo_commands.specs.Expected.{Expected, with_file, with_seed, with_secret, seed_limit}

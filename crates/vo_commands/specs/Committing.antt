@@ -24,7 +24,7 @@ use Rattle.owner_session.specs.declared.refusals.RefusalCause.{RefusalCause}
 use Rattle.owner_session.specs.declared.refusals.RefusalCause.TheVariants.{Proofs, Command}
 use Rattle.owner_session.specs.declared.refusals.NoStep.{NoStep}
 use Rattle.owner_session.specs.declared.refusals.NoStep.TheVariants.{Refused, Memory}
-use Rattle.owner_session.specs.Work.{Forms, Judgement, Makes, Refuses}
+use Rattle.owner_session.specs.SessionWork.{Forms, Judgement, Makes, Refuses}
 use Rattle.store_requests.specs.Bodies.{install_bytes, standing_in}
 use Rattle.vo_store.specs.Calls.{same_record}
 use Rattle.hex.specs.Hex.{encode_lower}

@@ -41,10 +41,10 @@ use Rattle.owner_state.specs.declared.sealing.SealFault.{SealFault}
 use Rattle.owner_state.specs.declared.sealing.SealFault.TheVariants as seal
 use Rattle.owner_state.specs.Sealing.{commands_of, seal_fault}
 use Rattle.vo_store.specs.Replying.{HasReply, HasReplyAt, IsNoVersion}
-use Rattle.vo_words.specs.Shapes.{PlainShape}
-use Rattle.vo_words.specs.PlainRequest.{PlainRequest, Keygen, Seal, Own, Answer, Serve, Check, Ask, Audit, Explain, Meet, Generate}
+use Rattle.cli_args.specs.Shapes.{PlainShape}
+use Rattle.cli_args.specs.PlainRequest.{PlainRequest, Keygen, Seal, Own, Answer, Serve, Check, Ask, Audit, Explain, Meet, Generate}
 use Rattle.sql_text.specs.Scripts.{IsScript}
-use Rattle.vo_commands.specs.Lines.{success, refusal, input_refusal, check_output, no_version, gen_output, audit_output, unsigned_output, unsigned_lines, explanation_lines, meet_output, bad_journal, command_output, spent_key, store_refusal, bad_frame, cut_off}
+use Rattle.vo_commands.specs.Lines.{success, refusal_output, input_refusal, check_output, no_version, gen_output, audit_output, unsigned_output, unsigned_lines, explanation_lines, meet_output, bad_journal, command_output, spent_key, store_refusal, bad_frame, cut_off}
 use Rattle.vo_commands.specs.Texts.{IsQueryText, IsRefusedQuery, IsRefusedScript}
 
 -- These lines; or what is expected of the query or the script that a text is; or what a relation
@@ -70,7 +70,7 @@ pub data Expected : Type 0 where
 abbrev pub reply_output : List ℕ → Output
 reply_output bytes =
     if nat_lt max_reply (length bytes)
-    then refusal 1 (codes "too large" ∷ decimal (length bytes) ∷ []) else success bytes
+    then refusal_output 1 (codes "too large" ∷ decimal (length bytes) ∷ []) else success bytes
 
 -- the journal, where the batches have no fault, or the first of these; want of memory is none
 abbrev pub sealed_output : Option SealFault → List ℕ → Option Output

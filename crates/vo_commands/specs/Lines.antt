@@ -57,12 +57,12 @@ abbrev pub line_output : List ℕ → ℕ → List (List ℕ) → Output
 line_output beginning status words =
     record { status = status; bytes = words_line (beginning ∷ words) }
 
-abbrev pub refusal : ℕ → List (List ℕ) → Output
-refusal status words = line_output (codes "refused:") status words
+abbrev pub refusal_output : ℕ → List (List ℕ) → Output
+refusal_output status words = line_output (codes "refused:") status words
 
 -- words, key, seed, file size or text refused
 abbrev pub input_refusal : List (List ℕ) → Output
-input_refusal words = refusal 2 words
+input_refusal words = refusal_output 2 words
 
 -- Values as they are printed.
 
@@ -126,11 +126,11 @@ answer_output answer = success (version_line answer.version ++ outcome_lines ans
 -- a version that no store of the journal keeps, and from which to which it keeps them
 abbrev pub no_version : ℕ → ℕ → ℕ → Output
 no_version version oldest newest =
-    refusal 1 (codes "no version" ∷ decimal version ∷ decimal oldest ∷ decimal newest ∷ [])
+    refusal_output 1 (codes "no version" ∷ decimal version ∷ decimal oldest ∷ decimal newest ∷ [])
 
 -- a reply that is accepted, and is of another version
 abbrev pub other_version : ℕ → ℕ → Output
-other_version version got = refusal 1 (codes "version" ∷ decimal version ∷ decimal got ∷ [])
+other_version version got = refusal_output 1 (codes "version" ∷ decimal version ∷ decimal got ∷ [])
 
 -- an answer, where no other version was asked for
 abbrev pub asked_output : Option ℕ → Answer → Output
@@ -146,7 +146,7 @@ check_output at (Err fault) = fault_output (codes "refused:") fault
 
 -- a refusal, by its code
 abbrev pub store_refusal : ℕ → Output
-store_refusal code = refusal 1 (codes "store" ∷ decimal code ∷ [])
+store_refusal code = refusal_output 1 (codes "store" ∷ decimal code ∷ [])
 
 -- a frame that is no answer, and an answer that is cut off
 abbrev pub bad_frame : ℕ → Output
@@ -284,13 +284,14 @@ fault_name command.BadSet = codes "BadSet"
 fault_name command.NotNull = codes "NotNull"
 
 abbrev pub command_output : ℕ → CommandFault → Output
-command_output index fault = refusal 8 (codes "command" ∷ decimal index ∷ fault_name fault ∷ [])
+command_output index fault =
+    refusal_output 8 (codes "command" ∷ decimal index ∷ fault_name fault ∷ [])
 
 abbrev pub spent_key : Output
-spent_key = refusal 8 (codes "key spent" ∷ [])
+spent_key = refusal_output 8 (codes "key spent" ∷ [])
 
 -- Refusals of an owner.
 
 -- the proof of the command of this number is refused
 abbrev pub proof_refusal : List ℕ → ℕ → List (List ℕ) → Output
-proof_refusal why index digests = refusal 1 (codes "proof" ∷ why ∷ decimal index ∷ digests)
+proof_refusal why index digests = refusal_output 1 (codes "proof" ∷ why ∷ decimal index ∷ digests)

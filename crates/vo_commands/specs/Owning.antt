@@ -20,8 +20,8 @@ use Rattle.owner_session.specs.Requests.{PutsRequests}
 use Rattle.owner_session.specs.Runs.{snapshot_of}
 use Rattle.owner_session.specs.Sessions.{SessionRuns, SessionIsDone}
 use Rattle.sql_text.specs.Scripts.{IsScript}
-use Rattle.vo_words.specs.Shapes.{PlainShape}
-use Rattle.vo_words.specs.PlainRequest.{PlainRequest, Own}
+use Rattle.cli_args.specs.Shapes.{PlainShape}
+use Rattle.cli_args.specs.PlainRequest.{PlainRequest, Own}
 use Rattle.vo_commands.specs.declared.report.Report.{Report}
 use Rattle.vo_commands.specs.declared.report.Stop.{Stop}
 use Rattle.vo_commands.specs.declared.report.Stop.TheVariants.{Refused, Outside, Memory}

@@ -13,7 +13,7 @@ use Rattle.connections.specs.declared.serve_fault.ServeFault.{ServeFault}
 use Rattle.connections.specs.declared.serve_fault.ServeFault.TheVariants as fault
 use Rattle.connections.specs.Serving.{ServesAll}
 use Rattle.vo_wire.specs.Answering.{reply_to, next_after}
-use Rattle.vo_words.specs.PlainRequest.{PlainRequest, Serve}
+use Rattle.cli_args.specs.PlainRequest.{PlainRequest, Serve}
 use Rattle.vo_commands.specs.declared.report.Stop.{Stop}
 use Rattle.vo_commands.specs.declared.report.Stop.TheVariants.{Refused, Outside, Memory}
 use Rattle.vo_commands.specs.Lines.{success, words_line, bad_journal}

@@ -11,7 +11,7 @@ ghost use Rattle.vo_commands.specs.Taking.{TakesFiles, Along};
 use crate::files::{take_file, take_key};
 use crate::limits::JOURNAL_LIMIT;
 use crate::piece::Word;
-use crate::refusals::{bad_entry, refusal};
+use crate::refusals::{bad_entry, refusal_report};
 use crate::report::{Report, Status, Stop};
 use crate::texts::query_in;
 use lms_sign::PublicKey;
@@ -75,7 +75,7 @@ fn reply_report(
         Err(ReplyFault::BadJournal { index }) => Err(Stop::Refused(bad_entry(alloc, index)?)),
         Err(ReplyFault::TooLarge { length }) => {
             let words = [Word::Phrase("too large"), Word::Number(length)];
-            Err(Stop::Refused(refusal(alloc, Status::RefusedReply, &words)?))
+            Err(Stop::Refused(refusal_report(alloc, Status::RefusedReply, &words)?))
         }
         Err(
             ReplyFault::NoVersion {
@@ -131,5 +131,5 @@ fn version_refusal(
         Word::Number(oldest),
         Word::Number(newest),
     ];
-    refusal(alloc, Status::RefusedReply, &words)
+    refusal_report(alloc, Status::RefusedReply, &words)
 }

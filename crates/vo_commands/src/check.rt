@@ -12,7 +12,7 @@ use crate::answers::answer_report;
 use crate::files::{take_file, take_key};
 use crate::limits::REPLY_LIMIT;
 use crate::piece::Word;
-use crate::refusals::refusal;
+use crate::refusals::refusal_report;
 use crate::reply_refusals::reply_refusal;
 use crate::report::{Report, Status, Stop};
 use crate::texts::query_in;
@@ -124,7 +124,7 @@ fn accepted_report(alloc: Global, at: Option<u64>, answer: &Answer) -> Result<Re
                 Word::Number(version),
                 Word::Number(answer.version),
             ];
-            Err(Stop::Refused(refusal(alloc, Status::RefusedReply, &words)?))
+            Err(Stop::Refused(refusal_report(alloc, Status::RefusedReply, &words)?))
         }
         _ => Ok(answer_report(alloc, answer)?),
     }

@@ -1,7 +1,7 @@
 //! `audit --seed`: the verdict to the key's owner, who has its seed.
 ghost use Rattle.std.specs.Prelude.{◌≡◌, ℕ, List, [], ◌∷◌, Contains, IfNone, IfOk, IfSome, IsTrue, Ok, Some};
 ghost use Rattle.outside.specs.Outputs.{Output};
-ghost use Rattle.vo_words.specs.Shapes.{plain_shape};
+ghost use Rattle.cli_args.specs.Shapes.{plain_shape};
 ghost use Rattle.vo_spec.specs.declared.records.Entry.{Entry};
 ghost use Rattle.vo_spec.specs.declared.checks.Verdict.TheVariants.{Unsigned};
 ghost use Rattle.vo_spec.specs.Conditions.{query_of};
@@ -19,9 +19,10 @@ use crate::explanations::{UnsignedRecord, forged_report};
 use crate::files::{take_file, take_key, take_seed};
 use crate::limits::{JOURNAL_LIMIT, REPLY_LIMIT};
 use crate::piece::Word;
-use crate::refusals::refusal;
+use crate::refusals::refusal_report;
 use crate::report::{Report, Status, Stop};
 use crate::texts::query_in;
+use cli_args::OwnerAudit;
 use lms_forge::explain as explain_signature;
 use lms_sign::{PublicKey, SecretKey};
 use outside::Shelf;
@@ -29,7 +30,6 @@ use owner_state::{EntriesFault, LentEntry, read_entries};
 use std::alloc::{AllocError, Global};
 use vo_audit::audit as audit_reply;
 use vo_spec::{AuditFault, QueryText, Record, Verdict};
-use vo_words::OwnerAudit;
 
 /// The verdict on the reply, or why there is none; of a record that the journal lacks also what
 /// explains that its signature is valid.
@@ -118,7 +118,7 @@ fn explain_reply(
 {
     if secret.public().bytes(alloc)? != key.bytes(alloc)? {
         let words = [Word::Phrase("seed of another key")];
-        return Err(Stop::Refused(refusal(alloc, Status::RefusedInput, &words)?));
+        return Err(Stop::Refused(refusal_report(alloc, Status::RefusedInput, &words)?));
     }
     owner_report(alloc, secret, journal, query, reply)
 }

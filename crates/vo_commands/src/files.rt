@@ -1,18 +1,18 @@
 //! Taking the files that a command names, in the order of its words.
 ghost use Rattle.std.specs.Prelude.{◌≡◌, ◌==◌, length, take, drop, is_some, IfOk, IfSome};
-ghost use Rattle.vo_words.specs.Shapes.{plain_shape};
+ghost use Rattle.cli_args.specs.Shapes.{plain_shape};
 ghost use Rattle.vo_commands.specs.Expected.{with_file, with_seed, with_secret, secret_by, seed_limit, with_key, with_public};
 ghost use Rattle.vo_commands.specs.Reports.{GoesOn, StaysInside};
 ghost use Rattle.vo_commands.specs.Taking.{TakesFiles, One};
 
 use crate::limits::{KEY_LIMIT, SEED_LIMIT};
 use crate::piece::Word;
-use crate::refusals::refusal;
+use crate::refusals::refusal_report;
 use crate::report::{Status, Stop};
+use cli_args::{KeyShape, Levels};
 use lms_sign::{OtsType, PublicKey, SecretKey};
 use outside::{Shelf, TakeFault};
 use std::alloc::{AllocError, Global};
-use vo_words::{KeyShape, Levels};
 
 /// A file by its name; one over its limit is refused.
 pub fn take_file<F: Shelf>(
@@ -31,7 +31,7 @@ pub fn take_file<F: Shelf>(
         Err(TakeFault::Failed) => Err(Stop::Outside),
         Err(TakeFault::TooLong) => {
             let words = [Word::Phrase("file too long"), Word::Phrase(name)];
-            Err(Stop::Refused(refusal(alloc, Status::RefusedInput, &words)?))
+            Err(Stop::Refused(refusal_report(alloc, Status::RefusedInput, &words)?))
         }
         Err(TakeFault::Memory) => Err(Stop::Memory),
     }
@@ -60,7 +60,7 @@ fn secret_key(alloc: Global, bytes: &[u8], shape: KeyShape) -> Result<SecretKey,
 {
     let Some((id, seed)) = parts_of(bytes) else {
         let words = [Word::Phrase("seed file"), Word::Number(bytes.len() as u64)];
-        return Err(Stop::Refused(refusal(alloc, Status::RefusedInput, &words)?));
+        return Err(Stop::Refused(refusal_report(alloc, Status::RefusedInput, &words)?));
     };
     Ok(key_of(alloc, *id, *seed, shape)?)
 }
@@ -115,7 +115,7 @@ fn public_key(alloc: Global, bytes: &[u8]) -> Result<PublicKey, Stop>
         Ok(key) => Ok(key),
         Err(_) => {
             let words = [Word::Phrase("key file")];
-            Err(Stop::Refused(refusal(alloc, Status::RefusedInput, &words)?))
+            Err(Stop::Refused(refusal_report(alloc, Status::RefusedInput, &words)?))
         }
     }
 }

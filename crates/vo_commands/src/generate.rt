@@ -1,7 +1,7 @@
 //! `gen`: what a generated workload comes to that an owner, a store, a client and an auditor go
 //! through.
 ghost use Rattle.std.specs.Prelude.{◌≡◌, ◌≤◌, ◌++◌, IfOk, OnOk};
-ghost use Rattle.vo_words.specs.PlainRequest.{max_steps};
+ghost use Rattle.cli_args.specs.PlainRequest.{max_steps};
 ghost use Rattle.vo_commands.specs.Expected.{Exactly};
 ghost use Rattle.vo_commands.specs.Lines.{gen_output, number_line, workload_lines};
 ghost use Rattle.vo_commands.specs.Reports.{Answers, StaysInside};

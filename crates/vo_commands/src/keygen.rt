@@ -1,15 +1,15 @@
 //! `keygen`: the public key of a seed file.
 ghost use Rattle.std.specs.Prelude.{IfSome};
-ghost use Rattle.vo_words.specs.Shapes.{plain_shape};
+ghost use Rattle.cli_args.specs.Shapes.{plain_shape};
 ghost use Rattle.vo_commands.specs.Expected.{keygen_expected};
 ghost use Rattle.vo_commands.specs.Reports.{Answers};
 ghost use Rattle.vo_commands.specs.Taking.{TakesFiles, Along};
 
 use crate::files::take_seed;
 use crate::report::{Report, Status, Stop};
+use cli_args::KeyShape;
 use outside::Shelf;
 use std::alloc::Global;
-use vo_words::KeyShape;
 
 /// The bytes of the public key.
 pub fn keygen<F: Shelf>(

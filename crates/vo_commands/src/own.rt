@@ -8,7 +8,7 @@ ghost use Rattle.vo_spec.specs.Secret.{Secret};
 ghost use Rattle.owner_state.specs.Stepping.{AreStepsTo};
 ghost use Rattle.owner_journal.specs.Entries.{entries_of};
 ghost use Rattle.owner_journal.specs.Resting.{IsAtRest};
-ghost use Rattle.vo_words.specs.Shapes.{plain_shape};
+ghost use Rattle.cli_args.specs.Shapes.{plain_shape};
 ghost use Rattle.vo_commands.specs.Expected.{script_limit, with_file, Anything, with_seed};
 ghost use Rattle.vo_commands.specs.Committing.{CanGoOn};
 ghost use Rattle.vo_commands.specs.Owning.{CommitsFrom, CommitsNothing, CommitsOnline, CommitsOver, OwnEnds, Prepares, commitment_expected, commitment_in};
@@ -22,6 +22,7 @@ use crate::output::print_outcome;
 use crate::owner_opening::{OpenedJournal, open_owner};
 use crate::report::Stop;
 use crate::texts::{batches_in, text_in};
+use cli_args::Commitment;
 use lms_sign::SecretKey;
 use outside::{Disk, Net, Shelf, Sink, write_output};
 use owner_session::run_session;
@@ -29,7 +30,6 @@ use std::alloc::Global;
 use std::marker::{Brand, PhantomData};
 use vo_spec::Batch;
 use vo_wire::Loan;
-use vo_words::Commitment;
 
 /// Opens the owner's journal on the disk, gives the store at the address what it lacks of it, and
 /// commits the script's batches; a line is written as each is installed. Returns the exit status.
@@ -169,13 +169,13 @@ fn commit<D: Disk, N: Net, S: Sink>(
         → 1 ≤ length before.queue → N.misses net.new ≡ N.misses net.old }
 {
     match open_owner(alloc, key, disk) {
-        Ok(opened) => commit_online(alloc, opened, batches, disk, net, out, address),
+        Ok(opened) => connect_and_commit(alloc, opened, batches, disk, net, out, address),
         Err(stop) => print_outcome(out, Err(stop)),
     }
 }
 
 /// The same of an owner behind its journal.
-fn commit_online<D: Disk, N: Net, S: Sink>(
+fn connect_and_commit<D: Disk, N: Net, S: Sink>(
     alloc: Global,
     opened: OpenedJournal,
     batches: &[Batch],
@@ -241,12 +241,14 @@ fn hold_session<D: Disk, N: Net, S: Sink>(
     ensures misses { StaysWhereItStands (N.wire net.old) (N.misses net.old) (N.misses net.new) }
 {
     let lent = LentDisk { disk };
-    let (_, status) = hold_session_on::<Brand, D, N, S>(alloc, opened, lent, batches, net, out);
+    let (_, status) = hold_session_on_lent_disk::<Brand, D, N, S>(
+        alloc, opened, lent, batches, net, out,
+    );
     status
 }
 
 /// The same on a disk that is lent, which is given back.
-fn hold_session_on<'a, K: Loan, D: Disk, N: Net, S: Sink>(
+fn hold_session_on_lent_disk<'a, K: Loan, D: Disk, N: Net, S: Sink>(
     alloc: Global,
     opened: OpenedJournal,
     lent: LentDisk<'a, D>,

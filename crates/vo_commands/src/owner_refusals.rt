@@ -8,7 +8,7 @@ ghost use Rattle.vo_commands.specs.Reports.{output_of};
 ghost use Rattle.vo_commands.specs.Words.{word_text};
 
 use crate::piece::Word;
-use crate::refusals::{command_refusal, refusal, spent_key};
+use crate::refusals::{command_refusal, refusal_report, spent_key};
 use crate::report::{Report, Status};
 use owner_roots::OwnerFault;
 use owner_session::{NoStep, Refusal, RefusalCause};
@@ -86,5 +86,5 @@ fn proof_refusal<'a>(
     ];
     let mut words = Vec::from_slice(alloc, &named)?;
     words.extend_from_slice(digests)?;
-    refusal(alloc, Status::RefusedReply, &words)
+    refusal_report(alloc, Status::RefusedReply, &words)
 }

@@ -1,6 +1,6 @@
 //! Refusals, each in one line that begins with `refused:`.
 ghost use Rattle.std.specs.Prelude.{◌≡◌, ◌∷◌, map, IfOk};
-ghost use Rattle.vo_commands.specs.Lines.{refusal, line_output, command_output, spent_key, fault_name, bad_journal};
+ghost use Rattle.vo_commands.specs.Lines.{refusal_output, line_output, command_output, spent_key, fault_name, bad_journal};
 ghost use Rattle.vo_commands.specs.Reports.{output_of, status_code};
 ghost use Rattle.vo_commands.specs.Words.{word_text};
 
@@ -11,9 +11,13 @@ use std::alloc::{AllocError, Global};
 use vo_spec::CommandFault;
 
 /// A refusal in one line: these words behind `refused:`.
-pub fn refusal(alloc: Global, status: Status, words: &[Word<'_>]) -> Result<Report, AllocError>
+pub fn refusal_report(
+    alloc: Global,
+    status: Status,
+    words: &[Word<'_>],
+) -> Result<Report, AllocError>
     ensures { IfOk result (λ report. output_of report
-        ≡ refusal (status_code status) (map word_text words.now)) }
+        ≡ refusal_output (status_code status) (map word_text words.now)) }
 {
     line_report(alloc, status, "refused:", words)
 }
@@ -55,14 +59,14 @@ pub fn command_refusal(alloc: Global, index: u64, fault: CommandFault) -> Result
         Word::Number(index),
         Word::Phrase(name_of(fault)),
     ];
-    refusal(alloc, Status::RefusedCommand, &words)
+    refusal_report(alloc, Status::RefusedCommand, &words)
 }
 
 /// The key has no leaf left for another version.
 pub fn spent_key(alloc: Global) -> Result<Report, AllocError>
     ensures { IfOk result (λ report. output_of report ≡ spent_key) }
 {
-    refusal(alloc, Status::RefusedCommand, &[Word::Phrase("key spent")])
+    refusal_report(alloc, Status::RefusedCommand, &[Word::Phrase("key spent")])
 }
 
 /// The journal's entry of this number is bad.

@@ -2,7 +2,7 @@
 ghost use Rattle.std.specs.Prelude.{[], ◌∷◌, IfSome};
 ghost use Rattle.vo_commands.specs.Expected.{Seals, script_expected, seal_expected};
 ghost use Rattle.vo_commands.specs.Reports.{Answers, StaysInside};
-ghost use Rattle.vo_words.specs.Shapes.{plain_shape};
+ghost use Rattle.cli_args.specs.Shapes.{plain_shape};
 ghost use Rattle.owner_state.specs.Sealing.{FitEach};
 ghost use Rattle.vo_commands.specs.Taking.{TakesFiles, Along};
 
@@ -11,12 +11,12 @@ use crate::limits::SCRIPT_LIMIT;
 use crate::refusals::{command_refusal, spent_key};
 use crate::report::{Report, Status, Stop};
 use crate::texts::{batches_in, text_in};
+use cli_args::KeyShape;
 use lms_sign::SecretKey;
 use outside::Shelf;
 use owner_state::{SealFault, seal as seal_batches};
 use std::alloc::Global;
 use vo_spec::{Batch, List};
-use vo_words::KeyShape;
 
 /// The journal of the script's batches, signed by the key of the seed file.
 pub fn seal<F: Shelf>(

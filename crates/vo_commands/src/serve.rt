@@ -19,13 +19,13 @@ use crate::output::print_outcome;
 use crate::piece::Word;
 use crate::refusals::bad_entry;
 use crate::report::Stop;
+use cli_args::Service;
 use lms_sign::PublicKey;
 use outside::{Net, Shelf, Sink, write_output};
 use owner_state::{Ending, LentEntry, read_slots};
 use std::alloc::{AllocError, Global};
 use vo_store::{LoadFault, Store};
 use vo_wire::{ServeFault, serve_all};
-use vo_words::Service;
 
 /// Serves connections with a store that has loaded the journal; a line is written as each ends, and
 /// one behind them. Returns the exit status.

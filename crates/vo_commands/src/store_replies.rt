@@ -9,7 +9,7 @@ ghost use Rattle.vo_commands.specs.Expected.{AsksOnly, question_frame, with_repl
 ghost use Rattle.vo_commands.specs.Reports.{GoesOn, StopsWithout, FailsOutside};
 
 use crate::piece::Word;
-use crate::refusals::{line_report, refusal};
+use crate::refusals::{line_report, refusal_report};
 use crate::report::{Status, Stop};
 use outside::Net;
 use std::alloc::{AllocError, Global};
@@ -89,7 +89,7 @@ fn stop_without(alloc: Global, fault: WireFault) -> Result<Stop, AllocError>
         }
         WireFault::Refused { code } => {
             let words = [Word::Phrase("store"), Word::Number(code as u64)];
-            refusal(alloc, Status::RefusedReply, &words)?
+            refusal_report(alloc, Status::RefusedReply, &words)?
         }
         WireFault::LinkFault => return Ok(Stop::Outside),
         WireFault::Memory => return Ok(Stop::Memory),

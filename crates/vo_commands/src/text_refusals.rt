@@ -4,7 +4,7 @@ ghost use Rattle.vo_commands.specs.Lines.{input_refusal, sql_output};
 ghost use Rattle.vo_commands.specs.Reports.{StopsWith, output_of};
 
 use crate::piece::Word;
-use crate::refusals::refusal;
+use crate::refusals::refusal_report;
 use crate::report::{Report, Status, Stop};
 use sql_text::SqlFault;
 use std::alloc::{AllocError, Global};
@@ -29,7 +29,7 @@ pub fn stop_after(alloc: Global, fault: SqlFault) -> Result<Stop, AllocError>
 fn phrase_refusal(alloc: Global, what: &str) -> Result<Report, AllocError>
     ensures { IfOk result (λ report. output_of report ≡ input_refusal (what.now ∷ [])) }
 {
-    refusal(alloc, Status::RefusedInput, &[Word::Phrase(what)])
+    refusal_report(alloc, Status::RefusedInput, &[Word::Phrase(what)])
 }
 
 /// The fault and its place in bytes.
@@ -38,5 +38,5 @@ fn refusal_at(alloc: Global, what: &str, at: usize) -> Result<Report, AllocError
         ≡ input_refusal (what.now ∷ decimal at ∷ [])) }
 {
     let words = [Word::Phrase(what), Word::Number(at as u64)];
-    refusal(alloc, Status::RefusedInput, &words)
+    refusal_report(alloc, Status::RefusedInput, &words)
 }

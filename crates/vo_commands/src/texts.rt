@@ -10,7 +10,7 @@ ghost use Rattle.vo_commands.specs.Reports.{GoesOn, ReadsText, StaysInside};
 ghost use Rattle.vo_commands.specs.Texts.{IsQueryText, IsRefusedQuery, IsRefusedScript};
 
 use crate::piece::Word;
-use crate::refusals::refusal;
+use crate::refusals::refusal_report;
 use crate::report::{Status, Stop};
 use crate::text_refusals::stop_after;
 use sql_text::{parse_query, parse_script};
@@ -26,7 +26,7 @@ pub fn text_in(alloc: Global, bytes: &[u8]) -> Result<&str, Stop>
         Ok(text) => Ok(text),
         Err(_) => {
             let words = [Word::Phrase("not text")];
-            Err(Stop::Refused(refusal(alloc, Status::RefusedInput, &words)?))
+            Err(Stop::Refused(refusal_report(alloc, Status::RefusedInput, &words)?))
         }
     }
 }

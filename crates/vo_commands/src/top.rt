@@ -2,8 +2,8 @@
 ghost use Rattle.std.specs.Prelude.{◌≡◌, ◌≢◌, ◌⊎◌, ◌≤◌, false, length, map, string_bytes, Some, None, IfSome};
 ghost use Rattle.outside.specs.ConnectionModel.{ConnectionModel};
 ghost use Rattle.outside.specs.FaultRose.{FaultRose};
-ghost use Rattle.vo_words.specs.PlainRequest.{HasSteps, request_in};
-ghost use Rattle.vo_words.specs.Request.{plain_command};
+ghost use Rattle.cli_args.specs.PlainRequest.{HasSteps, request_in};
+ghost use Rattle.cli_args.specs.Request.{plain_command};
 ghost use Rattle.vo_commands.specs.Expected.{Exactly, is_service, expected_of, command_expected, words_refusal, queue_of, connections_of, uses_disk, uses_net, writes_as_it_works, UsesNet, Ends, HoldsEach, file_words, files_expected, words_expected};
 ghost use Rattle.vo_commands.specs.Owning.{CommitsNothing, OwnEnds, own_expected};
 ghost use Rattle.vo_commands.specs.Reports.{Answers, StaysInside, FailsOutside};
@@ -21,13 +21,13 @@ use crate::meet::meet;
 use crate::output::print_outcome;
 use crate::own::own;
 use crate::piece::Word;
-use crate::refusals::refusal;
+use crate::refusals::refusal_report;
 use crate::report::{Report, Status, Stop};
 use crate::seal::seal;
 use crate::serve::serve;
+use cli_args::{Command, Request, read_words};
 use outside::{Disk, Net, Shelf, Sink};
 use std::alloc::Global;
-use vo_words::{Command, Request, read_words};
 
 /// Runs the program: `words` are the command line with the program's name first, `files` has the
 /// files that they name, `disk` has the owner's journal, and all output goes to `out`: in one
@@ -125,7 +125,7 @@ fn refuse_words(alloc: Global) -> Result<Report, Stop>
     ensures known { Answers (Exactly words_refusal) result }
     ensures inside { StaysInside result }
 {
-    Ok(refusal(alloc, Status::RefusedInput, &[Word::Phrase("words")])?)
+    Ok(refusal_report(alloc, Status::RefusedInput, &[Word::Phrase("words")])?)
 }
 
 /// What a command comes to.

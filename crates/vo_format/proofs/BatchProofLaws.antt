@@ -21,7 +21,7 @@ use Rattle.batch_format.proofs.ReaderLaws.{Took, bound, tested, took_then, no_so
 use Rattle.batch_format.proofs.BatchLaws.{u16_found, u16_read}
 use Rattle.version_record.proofs.RecordLaws.{words_read, whole_is}
 use Rattle.mb_tree.specs.declared.parts.PartTree.{PartTree}
-use Rattle.vo_format.specs.View.{trees_of}
+use Rattle.vo_format.specs.View.{row_trees_of}
 use Rattle.batch_format.specs.TreeReading.{tree_at}
 use Rattle.vo_format.specs.Reading.{proofs_at, proofs_of}
 use Rattle.batch_format.proofs.TreeLaws.{trees_read}
@@ -85,14 +85,14 @@ whole_proofs bytes ts is =
 
 -- What the call ensures.
 
-pub are_proofs : (bytes : List ℕ) (r : Result (Vec PartTree) ReadFault) → IsBytes bytes → ReadsAs trees_of r (proofs_of bytes) → IfOk r (λ trees. AreProofs bytes (trees_of trees))
-are_proofs bytes (Ok trees) fits read = proofs_are bytes (trees_of trees) fits read
+pub are_proofs : (bytes : List ℕ) (r : Result (Vec PartTree) ReadFault) → IsBytes bytes → ReadsAs row_trees_of r (proofs_of bytes) → IfOk r (λ trees. AreProofs bytes (row_trees_of trees))
+are_proofs bytes (Ok trees) fits read = proofs_are bytes (row_trees_of trees) fits read
 are_proofs bytes (Err fault) fits read = tt
 
-pub are_none : (bytes : List ℕ) (r : Result (Vec PartTree) ReadFault) → ReadsAs trees_of r (proofs_of bytes) → r ≡ Err BadForm → (ts : List RowTree) → AreProofs bytes ts → ⊥
+pub are_none : (bytes : List ℕ) (r : Result (Vec PartTree) ReadFault) → ReadsAs row_trees_of r (proofs_of bytes) → r ≡ Err BadForm → (ts : List RowTree) → AreProofs bytes ts → ⊥
 are_none bytes r read bad ts is =
-    let nothing : proofs_of bytes ≡ None = subst (λ (s : Result (Vec PartTree) ReadFault). ReadsAs trees_of s (proofs_of bytes)) bad read in
+    let nothing : proofs_of bytes ≡ None = subst (λ (s : Result (Vec PartTree) ReadFault). ReadsAs row_trees_of s (proofs_of bytes)) bad read in
     no_some ts (sym nothing ∙ whole_proofs bytes ts is)
 
-pub proofs_are_read : (bytes : List ℕ) (r : Result (Vec PartTree) ReadFault) (ts : List RowTree) → ReadsAs trees_of r (proofs_of bytes) → AreProofs bytes ts → ReadsAs trees_of r (Some ts)
-proofs_are_read bytes r ts read is = subst (ReadsAs trees_of r) (whole_proofs bytes ts is) read
+pub proofs_are_read : (bytes : List ℕ) (r : Result (Vec PartTree) ReadFault) (ts : List RowTree) → ReadsAs row_trees_of r (proofs_of bytes) → AreProofs bytes ts → ReadsAs row_trees_of r (Some ts)
+proofs_are_read bytes r ts read is = subst (ReadsAs row_trees_of r) (whole_proofs bytes ts is) read

@@ -7,13 +7,13 @@ use Rattle.vo_spec.specs.Trees.{RowTree}
 use Rattle.vo_spec.specs.Replies.{Reply as Plain}
 use Rattle.vo_format.specs.declared.reply.Reply.{Reply}
 
-abbrev pub trees_of : Vec PartTree → List RowTree
-trees_of trees = map part_of trees.items
+abbrev pub row_trees_of : Vec PartTree → List RowTree
+row_trees_of trees = map part_of trees.items
 
 abbrev pub reply_of : Reply → Plain
 reply_of r = record {
   rec = r.rec;
   signature = r.signature.now;
   catalog = r.catalog;
-  trees = trees_of r.trees;
+  trees = row_trees_of r.trees;
 }

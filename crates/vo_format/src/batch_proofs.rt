@@ -8,7 +8,7 @@ ghost use Rattle.row_bytes.specs.declared.read_fault.ReadFault.TheVariants.{BadF
 ghost use Rattle.mb_tree.specs.View.{part_of};
 ghost use Rattle.vo_format.specs.Reading.{proofs_at, proofs_of};
 ghost use Rattle.vo_format.specs.Taking.{TakesOr};
-ghost use Rattle.vo_format.specs.View.{trees_of};
+ghost use Rattle.vo_format.specs.View.{row_trees_of};
 ghost use Rattle.batch_format.specs.Writing.{StaysInFront};
 
 use crate::tree_reading::take_trees;
@@ -20,7 +20,7 @@ use vo_spec::{MAX_COMMANDS, MAX_PROOFS, u16_bytes};
 
 #[tactic(auto, unfolding(crate::specs::Reading::proofs_at))]
 fn take_proofs<'b>(alloc: Global, cursor: &mut Cursor<'b>) -> Result<Vec<PartTree<'b>>, ReadFault>
-    ensures { TakesOr trees_of result cursor.new (proofs_at cursor.old) }
+    ensures { TakesOr row_trees_of result cursor.new (proofs_at cursor.old) }
 {
     let Some(_) = cursor.take_word(b"VOU1") else {
         return Err(ReadFault::BadForm);
@@ -36,7 +36,7 @@ fn take_proofs<'b>(alloc: Global, cursor: &mut Cursor<'b>) -> Result<Vec<PartTre
 
 #[tactic(auto, unfolding(crate::specs::Reading::proofs_of))]
 fn proofs_in<'b>(alloc: Global, bytes: &'b [u8]) -> Result<Vec<PartTree<'b>>, ReadFault>
-    ensures { ReadsAs trees_of result (proofs_of bytes.now) }
+    ensures { ReadsAs row_trees_of result (proofs_of bytes.now) }
 {
     if bytes.len() > MAX_PROOFS {
         return Err(ReadFault::BadForm);
@@ -49,14 +49,14 @@ fn proofs_in<'b>(alloc: Global, bytes: &'b [u8]) -> Result<Vec<PartTree<'b>>, Re
 /// The proofs that all the bytes are.
 pub fn read_proofs<'b>(alloc: Global, bytes: &'b [u8]) -> Result<Vec<PartTree<'b>>, ReadFault>
     // What is read is spelled so, and keeps the limits.
-    ensures found { IfOk result (λ trees. AreProofs bytes.now (trees_of trees)) }
+    ensures found { IfOk result (λ trees. AreProofs bytes.now (row_trees_of trees)) }
 
     // What is refused are no proofs.
     ensures bad { result ≡ Err BadForm → (trees : List RowTree) → AreProofs bytes.now trees → ⊥ }
 
     // What is spelled so is read, unless memory runs out.
     ensures only { (trees : List RowTree) → AreProofs bytes.now trees
-        → ReadsAs trees_of result (Some trees) }
+        → ReadsAs row_trees_of result (Some trees) }
 {
     proofs_in(alloc, bytes)
 }

@@ -5,7 +5,7 @@ ghost use Rattle.row_bytes.specs.Fields.{ReadsAs, whole};
 ghost use Rattle.row_bytes.specs.declared.read_fault.ReadFault.TheVariants.{BadForm};
 ghost use Rattle.vo_format.specs.Reading.{signature_at, catalog_block_at, counted_trees_at, reply_at};
 ghost use Rattle.vo_format.specs.Taking.{Takes, TakesOr};
-ghost use Rattle.vo_format.specs.View.{reply_of, trees_of};
+ghost use Rattle.vo_format.specs.View.{reply_of, row_trees_of};
 
 use crate::reply::Reply;
 use crate::tree_reading::take_trees;
@@ -46,7 +46,7 @@ fn take_counted_trees<'b>(
     alloc: Global,
     cursor: &mut Cursor<'b>,
 ) -> Result<Vec<PartTree<'b>>, ReadFault>
-    ensures { TakesOr trees_of result cursor.new (counted_trees_at cursor.old) }
+    ensures { TakesOr row_trees_of result cursor.new (counted_trees_at cursor.old) }
 {
     match cursor.take_byte() {
         Some(count) => take_trees(alloc, cursor, u16::from(count)),

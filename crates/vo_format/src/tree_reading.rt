@@ -11,7 +11,7 @@ ghost use Rattle.batch_format.specs.BatchReading.{one};
 ghost use Rattle.mb_tree.specs.View.{part_of};
 ghost use Rattle.batch_format.specs.TreeReading.{entry_at, inner_at, key_at, leaf_at, node_at, tree_at};
 ghost use Rattle.vo_format.specs.Taking.{TakesOr};
-ghost use Rattle.vo_format.specs.View.{trees_of};
+ghost use Rattle.vo_format.specs.View.{row_trees_of};
 
 use crate::entry_reading::{push_entry, take_count, take_key};
 use mb_tree::{Children, PartTree};
@@ -158,7 +158,7 @@ fn each_child<'b>(
     levels: u8,
     count: u8,
 ) -> Result<Vec<PartTree<'b>>, ReadFault>
-    ensures { TakesOr trees_of result cursor.new (times (tree_at levels) count cursor.old) }
+    ensures { TakesOr row_trees_of result cursor.new (times (tree_at levels) count cursor.old) }
 {
     let mut children = Vec::with_capacity(alloc, usize::from(count))?;
     for _ in 0..count {
@@ -180,8 +180,8 @@ fn push_child<'b>(
     levels: u8,
     children: &mut Vec<PartTree<'b>>,
 ) -> Result<(), ReadFault>
-    ensures { TakesOr (λ done. trees_of children.new) result cursor.new
-        (one (λ child. trees_of children.old ++ child ∷ []) (tree_at levels) cursor.old) }
+    ensures { TakesOr (λ done. row_trees_of children.new) result cursor.new
+        (one (λ child. row_trees_of children.old ++ child ∷ []) (tree_at levels) cursor.old) }
 {
     if levels == 0 {
         return Err(ReadFault::BadForm);
@@ -200,8 +200,8 @@ fn push_node<'b>(
     levels: u8,
     nodes: &mut Vec<PartTree<'b>>,
 ) -> Result<(), ReadFault>
-    ensures { TakesOr (λ done. trees_of nodes.new) result cursor.new
-        (one (λ node. trees_of nodes.old ++ node ∷ []) (node_at (tree_at levels)) cursor.old) }
+    ensures { TakesOr (λ done. row_trees_of nodes.new) result cursor.new
+        (one (λ node. row_trees_of nodes.old ++ node ∷ []) (node_at (tree_at levels)) cursor.old) }
 {
     match cursor.take_byte() {
         Some(0) => push_stub(cursor, nodes),
@@ -214,8 +214,8 @@ fn push_node<'b>(
 /// Puts the stub behind others whose digest comes next.
 #[inline(always)]
 fn push_stub<'b>(cursor: &mut Cursor<'b>, nodes: &mut Vec<PartTree<'b>>) -> Result<(), ReadFault>
-    ensures { TakesOr (λ done. trees_of nodes.new) result cursor.new
-        (one (λ digest. trees_of nodes.old ++ stub digest ∷ []) (bytes_at 32) cursor.old) }
+    ensures { TakesOr (λ done. row_trees_of nodes.new) result cursor.new
+        (one (λ digest. row_trees_of nodes.old ++ stub digest ∷ []) (bytes_at 32) cursor.old) }
 {
     let Some(digest) = cursor.take_chunk::<32>() else {
         return Err(ReadFault::BadForm);
@@ -230,7 +230,7 @@ pub fn take_trees<'b>(
     cursor: &mut Cursor<'b>,
     count: u16,
 ) -> Result<Vec<PartTree<'b>>, ReadFault>
-    ensures { TakesOr trees_of result cursor.new (times (tree_at max_levels) count cursor.old) }
+    ensures { TakesOr row_trees_of result cursor.new (times (tree_at max_levels) count cursor.old) }
 {
     let mut trees = Vec::new(alloc);
     for _ in 0..count {

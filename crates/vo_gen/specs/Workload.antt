@@ -21,8 +21,8 @@ use Rattle.vo_spec.specs.declared.queries.Cond.{Cond}
 use Rattle.vo_spec.specs.declared.queries.Cond.TheVariants.{All, Test}
 use Rattle.vo_spec.specs.declared.queries.QueryText.{QueryText}
 use Rattle.vo_spec.specs.Values.{key_of}
-use Rattle.vo_gen.specs.declared.steps.Step.{Step}
-use Rattle.vo_gen.specs.declared.steps.Step.TheVariants as step_as
+use Rattle.vo_gen.specs.declared.steps.WorkloadStep.{WorkloadStep}
+use Rattle.vo_gen.specs.declared.steps.WorkloadStep.TheVariants as step_as
 use Rattle.vo_gen.specs.Words.{key_of_number, word_of}
 
 -- how many steps a workload may have, and how many commands a batch of them has
@@ -151,7 +151,7 @@ module _ (word : ℕ → ℕ) (keys : ℕ) where
       if is_even j then selection low high else join_query low high
 
 -- the command of a step that the program has drawn
-abbrev pub command_of : Step → Command
+abbrev pub command_of : WorkloadStep → Command
 command_of (step_as.Insert key word boss) = insertion key word boss
 command_of (step_as.Delete key) = deletion key
 command_of (step_as.Update key boss) = change key boss

@@ -3,7 +3,7 @@ ghost use Rattle.std.specs.Prelude.{◌≡◌, ◌+◌, ◌*◌, ◌<◌, ◌≤
 ghost use Rattle.vo_gen.specs.Words.{key_of_number, word_of};
 ghost use Rattle.vo_gen.specs.Workload.{max_steps, keys_for, step, steps_from, command_of, is_even};
 
-use crate::steps::Step;
+use crate::steps::WorkloadStep;
 use crate::words::Words;
 use std::alloc::{AllocError, Global};
 use std::marker::Model;
@@ -72,7 +72,7 @@ impl Drawing {
     }
 
     /// The next step.
-    pub fn step(&mut self) -> Step
+    pub fn step(&mut self) -> WorkloadStep
         requires { self.old.steps < max_steps }
         ensures step { command_of result
             ≡ step (word_of self.old.key) self.old.keys self.old.steps }
@@ -84,7 +84,7 @@ impl Drawing {
         let stands = self.standing[place];
         self.standing[place] = stands_behind(stands, mark);
         self.steps += 1;
-        Step::of(stands, key, mark, mark % self.keys)
+        WorkloadStep::of(stands, key, mark, mark % self.keys)
     }
 
     /// So many next steps.

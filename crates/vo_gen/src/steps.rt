@@ -7,24 +7,24 @@ use vo_spec::{Column, Command, Kind, List, Name, SetPart, Text, Value};
 
 /// What a step does with the row of its key.
 #[derive(Clone, Copy, Debug)]
-pub enum Step {
+pub enum WorkloadStep {
     Insert { key: u32, word: u32, boss: u32 },
     Delete { key: u32 },
     Update { key: u32, boss: u32 },
 }
 
-impl Step {
+impl WorkloadStep {
     /// The step of a key that stands or doesn't, and of a word, its mark.
-    pub fn of(stands: bool, key: u32, word: u32, boss: u32) -> Step
+    pub fn of(stands: bool, key: u32, word: u32, boss: u32) -> WorkloadStep
         ensures { command_of result ≡ (if not stands then insertion key word boss
             else if is_even word then deletion key else change key boss) }
     {
         if !stands {
-            Step::Insert { key, word, boss }
+            WorkloadStep::Insert { key, word, boss }
         } else if word % 2 == 0 {
-            Step::Delete { key }
+            WorkloadStep::Delete { key }
         } else {
-            Step::Update { key, boss }
+            WorkloadStep::Update { key, boss }
         }
     }
 
@@ -33,9 +33,9 @@ impl Step {
         ensures { IfOk result (λ command. command ≡ command_of self) }
     {
         match self {
-            Step::Insert { key, word, boss } => insertion(alloc, key, word, boss),
-            Step::Delete { key } => deletion(alloc, key),
-            Step::Update { key, boss } => change(alloc, key, boss),
+            WorkloadStep::Insert { key, word, boss } => insertion(alloc, key, word, boss),
+            WorkloadStep::Delete { key } => deletion(alloc, key),
+            WorkloadStep::Update { key, boss } => change(alloc, key, boss),
         }
     }
 }

@@ -7,7 +7,7 @@ ghost use Rattle.stored_tables.specs.Working.{work_from};
 ghost use Rattle.vo_store.specs.Calls.{Gives, with_proofs};
 
 use crate::fault::StoreFault;
-use owner_state::work_batch;
+use owner_state::apply_with_proofs;
 use std::alloc::Global;
 use stored_tables::{BatchFault, StoredTables};
 use vo_spec::{Batch, List};
@@ -32,7 +32,7 @@ pub(crate) fn propose_batch(
 {
     let tables = tables.share(alloc)?;
     let mut proofs = Vec::new(alloc);
-    match work_batch(alloc, tables, batch.commands.as_slice(), &mut proofs) {
+    match apply_with_proofs(alloc, tables, batch.commands.as_slice(), &mut proofs) {
         Ok(after) => Ok(Proposal { after, proofs }),
         Err(BatchFault::Command { index, fault }) => Err(StoreFault::Command {
             index,

@@ -13,7 +13,7 @@ ghost use Rattle.query_plan.specs.Plans.{plan_of, plan_need};
 ghost use Rattle.query_plan.specs.PlanViews.{plan_seen};
 ghost use Rattle.plan_run.specs.Running.{lefts_seen, needs_of};
 ghost use Rattle.stored_tables.specs.Representation.{IsStanding};
-ghost use Rattle.vo_format.specs.View.{trees_of};
+ghost use Rattle.vo_format.specs.View.{row_trees_of};
 ghost use Rattle.vo_store.specs.Proving.{HasTable, HasTables, tree_by, left_need_by, plan_proofs, proofs_of};
 
 use mb_tree::{PartTree, Subtree, Tree};
@@ -67,7 +67,7 @@ fn proof_of_both<'t>(
 }
 
 fn one_proof(alloc: Global, proof: PartTree<'_>) -> Result<Vec<PartTree<'_>>, AllocError>
-    ensures { IfOk result (λ proofs. trees_of proofs ≡ part_of proof.entry ∷ []) }
+    ensures { IfOk result (λ proofs. row_trees_of proofs ≡ part_of proof.entry ∷ []) }
 {
     let mut proofs = Vec::new(alloc);
     proofs.push(proof)?;
@@ -79,7 +79,7 @@ fn two_proofs<'t>(
     left: PartTree<'t>,
     right: PartTree<'t>,
 ) -> Result<Vec<PartTree<'t>>, AllocError>
-    ensures { IfOk result (λ proofs. trees_of proofs ≡ part_of left.entry ∷ part_of right.entry
+    ensures { IfOk result (λ proofs. row_trees_of proofs ≡ part_of left.entry ∷ part_of right.entry
         ∷ []) }
 {
     let mut proofs = Vec::new(alloc);
@@ -95,7 +95,7 @@ fn proofs_of_both<'t>(
     left: Need,
     rights: Vec<Need>,
 ) -> Result<Vec<PartTree<'t>>, AllocError>
-    ensures { IfOk result (λ proofs. trees_of proofs ≡ prune_tree (left ∷ rights.items) tree.now
+    ensures { IfOk result (λ proofs. row_trees_of proofs ≡ prune_tree (left ∷ rights.items) tree.now
         ∷ []) }
 {
     let proof = proof_of_both(alloc, tree, left, rights)?;
@@ -110,7 +110,7 @@ fn proofs_of_each<'t>(
     right: &'t Tree,
     rights: &[Need],
 ) -> Result<Vec<PartTree<'t>>, AllocError>
-    ensures { IfOk result (λ proofs. trees_of proofs ≡ prune_tree (need.now ∷ []) left.now
+    ensures { IfOk result (λ proofs. row_trees_of proofs ≡ prune_tree (need.now ∷ []) left.now
         ∷ prune_tree rights.now right.now ∷ []) }
 {
     let left = prune(alloc, left, slice::from_ref(need))?;
@@ -124,7 +124,7 @@ fn proofs_of_one<'t>(
     plan: &Plan<'_, '_>,
     tree: &'t Tree,
 ) -> Result<Vec<PartTree<'t>>, AllocError>
-    ensures { IfOk result (λ proofs. trees_of proofs
+    ensures { IfOk result (λ proofs. row_trees_of proofs
         ≡ prune_tree (plan_need (plan_seen plan.now) tree.now ∷ []) tree.now ∷ []) }
 {
     let need = left_need(alloc, plan, tree.root())?;
@@ -144,7 +144,8 @@ fn joined_proofs<'t>(
     requires joined { plan.now.query.now.bound_sources.right ≡ Some right.now }
     requires tree { left.now ≡ tree_by (plan_seen plan.now) tables.now 0 }
     requires shown { seen (plan_need (plan_seen plan.now) left.now) left.now ≡ None → ⊥ }
-    ensures { IfOk result (λ trees. trees_of trees ≡ plan_proofs (plan_seen plan.now) tables.now) }
+    ensures { IfOk result (λ trees. row_trees_of trees
+        ≡ plan_proofs (plan_seen plan.now) tables.now) }
 {
     let root = left.root();
     let need = left_need(alloc, plan, root)?;
@@ -165,7 +166,8 @@ fn plan_proofs<'t>(
     requires tables { HasTables tables.now (bound_sources_seen plan.now.query.now.bound_sources) }
     requires shown { let p = plan_seen plan.now in
         seen (left_need_by p tables.now) (tree_by p tables.now 0) ≡ None → ⊥ }
-    ensures { IfOk result (λ trees. trees_of trees ≡ plan_proofs (plan_seen plan.now) tables.now) }
+    ensures { IfOk result (λ trees. row_trees_of trees
+        ≡ plan_proofs (plan_seen plan.now) tables.now) }
 {
     let query = plan.query;
     let left = tree_of(tables, query.bound_sources.left.table);
@@ -188,7 +190,7 @@ fn bound_proofs<'t>(
         max_columns }
     requires shown { let p = plan_of (query_seen query.now) in
         seen (left_need_by p tables.now) (tree_by p tables.now 0) ≡ None → ⊥ }
-    ensures { IfOk result (λ trees. trees_of trees
+    ensures { IfOk result (λ trees. row_trees_of trees
         ≡ plan_proofs (plan_of (query_seen query.now)) tables.now) }
 {
     let plan = plan(alloc, query)?;
@@ -204,7 +206,8 @@ pub(crate) fn proofs_for<'t, 'q>(
 ) -> Result<Vec<PartTree<'t>>, AllocError>
     requires standing { IsStanding tables.now }
     requires catalog { catalog.now ≡ catalog_of tables.now }
-    ensures { IfOk result (λ trees. trees_of trees ≡ proofs_of (query_of query.now) tables.now) }
+    ensures { IfOk result (λ trees. row_trees_of trees
+        ≡ proofs_of (query_of query.now) tables.now) }
 {
     match bind(alloc, catalog, query) {
         Ok(query) => bound_proofs(alloc, tables, &query),

@@ -15,7 +15,7 @@ use crate::answering::{answer_by_tables, oldest_version};
 use crate::fault::{ReplyFault, StoreFault};
 use crate::signed_record::SignedRecord;
 use lms_sign::PublicKey;
-use owner_state::{JournalFault, LoadableJournal, read_loadable};
+use owner_state::{JournalReadFault, LoadableJournal, read_loadable};
 use std::alloc::Global;
 use vo_spec::QueryText;
 
@@ -37,8 +37,8 @@ pub fn reply_by(
 {
     match read_loadable(alloc, &key, journal, None) {
         Ok(read) => reply_by_last(alloc, &read, query),
-        Err(JournalFault::BadAt { index }) => Err(ReplyFault::BadJournal { index }),
-        Err(JournalFault::Memory) => Err(ReplyFault::Memory),
+        Err(JournalReadFault::BadAt { index }) => Err(ReplyFault::BadJournal { index }),
+        Err(JournalReadFault::Memory) => Err(ReplyFault::Memory),
     }
 }
 
@@ -63,8 +63,8 @@ pub fn reply_at(
 {
     match read_loadable(alloc, &key, journal, Some(version)) {
         Ok(read) => reply_by_kept(alloc, &read, version, query),
-        Err(JournalFault::BadAt { index }) => Err(ReplyFault::BadJournal { index }),
-        Err(JournalFault::Memory) => Err(ReplyFault::Memory),
+        Err(JournalReadFault::BadAt { index }) => Err(ReplyFault::BadJournal { index }),
+        Err(JournalReadFault::Memory) => Err(ReplyFault::Memory),
     }
 }
 

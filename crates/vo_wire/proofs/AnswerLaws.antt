@@ -16,7 +16,7 @@ use Rattle.vo_store.specs.declared.signed_record.SignedRecord.{SignedRecord}
 use Rattle.vo_store.specs.declared.kept_version.KeptVersion.{KeptVersion}
 use Rattle.vo_store.specs.StoreState.{StoreState, oldest_of}
 use Rattle.vo_store.specs.Calls.{Gives, answer_of, answer_at_of, kept_at, reply_of_version, within_limit}
-use Rattle.vo_wire.specs.Answering.{KindAndBody, answer_by, frame_answer, refusal, code_of, proofs_answer, store_after, reply_to}
+use Rattle.vo_wire.specs.Answering.{KindAndBody, answer_by, frame_answer, refusal_answer, code_of, proofs_answer, store_after, reply_to}
 
 abbrev pub IsAnswer : Result (Option Frame) AllocError → Option KindAndBody → Type 0
 IsAnswer result due = IfOk result (λ answer. frame_answer answer ≡ due)
@@ -37,8 +37,8 @@ on_ok (Err why) p = tt
 
 -- a refusal, unless memory ran out
 pub refused : {X Y : Type 0} (view : X → Y) (to : Result Y StoreFault → KindAndBody) (why : StoreFault) (due : Result Y StoreFault)
-    (result : Result (Option Frame) AllocError) → to (Err why) ≡ refusal (code_of why) → Gives view (Err why) due
-    → FailsAtMemory why result → IsAnswer result (Some (refusal (code_of why))) → IsAnswer result (Some (to due))
+    (result : Result (Option Frame) AllocError) → to (Err why) ≡ refusal_answer (code_of why) → Gives view (Err why) due
+    → FailsAtMemory why result → IsAnswer result (Some (refusal_answer (code_of why))) → IsAnswer result (Some (to due))
 refused view to fault.Memory due result is g memory h = failed_answer result (Some (to due)) (memory refl)
 refused view to fault.Empty due result is g memory h = same_answer result _ _ (ap (λ (a : KindAndBody). Some a) (sym is ∙ sym (ap to g))) h
 refused view to (fault.TooLarge size) due result is g memory h = same_answer result _ _ (ap (λ (a : KindAndBody). Some a) (sym is ∙ sym (ap to g))) h
@@ -92,7 +92,7 @@ no_answer s kinds.Refusal body query status propose install query_at = refl
 
 -- a refusal of a proposal, but of a command
 pub refuses_all : (why : StoreFault) → ((index : ℕ) (because : CommandFault) (proofs : List ℕ) → why ≡ fault.Command index because proofs → ⊥)
-    → proofs_answer (Err why) ≡ refusal (code_of why)
+    → proofs_answer (Err why) ≡ refusal_answer (code_of why)
 refuses_all fault.Empty other = refl
 refuses_all (fault.TooLarge size) other = refl
 refuses_all (fault.NoVersion version oldest newest) other = refl

@@ -30,8 +30,8 @@ frame_answer answer = option_map (λ (frame : Frame). (frame.kind, frame.body.it
 abbrev pub FitsFrame : Option Frame → Type 0
 FitsFrame answer = IfSome answer (λ (frame : Frame). length frame.body.items + 1 < 2 ^ 32)
 
-abbrev pub refusal : ℕ → KindAndBody
-refusal code = (kind.Refusal, code ∷ [])
+abbrev pub refusal_answer : ℕ → KindAndBody
+refusal_answer code = (kind.Refusal, code ∷ [])
 
 -- the text is no query
 abbrev pub no_query : ℕ
@@ -57,7 +57,7 @@ told_code why = Some (code_of why)
 
 abbrev pub reply_answer : Result (List ℕ) StoreFault → KindAndBody
 reply_answer (Ok reply) = (kind.Reply, reply)
-reply_answer (Err why) = refusal (code_of why)
+reply_answer (Err why) = refusal_answer (code_of why)
 
 -- the store's answer by the version that it stands at, or by this one
 abbrev pub answer_by : StoreState → Option ℕ → Query → Result (List ℕ) StoreFault
@@ -65,7 +65,7 @@ answer_by s None q = answer_of s q
 answer_by s (Some version) q = answer_at_of s version q
 
 abbrev pub query_answer : StoreState → Option ℕ → Option Query → KindAndBody
-query_answer s at None = refusal no_query
+query_answer s at None = refusal_answer no_query
 query_answer s at (Some q) = reply_answer (answer_by s at q)
 
 -- a version and a text
@@ -87,7 +87,7 @@ status_answer s body =
 abbrev pub proofs_answer : Result (StoreState × List ℕ) StoreFault → KindAndBody
 proofs_answer (Ok proposal) = (kind.Proofs, proposal.1)
 proofs_answer (Err (fault.Command index why proofs)) = (kind.Proofs, proofs)
-proofs_answer (Err why) = refusal (code_of why)
+proofs_answer (Err why) = refusal_answer (code_of why)
 
 -- the store goes on to what the call gave, or stays
 abbrev pub store_after : {X : Type 0} → (X → StoreState) → StoreState → Result X StoreFault
@@ -106,7 +106,7 @@ after_proposal s commands = store_after (λ proposal. proposal.0) s (proposal_of
 -- the version that is installed, as eight bytes
 abbrev pub version_answer : ℕ → Result StoreState StoreFault → KindAndBody
 version_answer version (Ok next) = (kind.Installed, u64_bytes version)
-version_answer version (Err why) = refusal (code_of why)
+version_answer version (Err why) = refusal_answer (code_of why)
 
 abbrev pub install_answer : StoreState → Record × List ℕ → KindAndBody
 install_answer s signed = version_answer signed.0.version (install_of s signed.0 signed.1)

@@ -1,7 +1,7 @@
 //! Answers as frames, and the codes of refusals.
 ghost use Rattle.std.specs.Prelude.{◌≡◌, Some, IfOk, IsErr};
 ghost use Rattle.vo_store.specs.declared.fault.StoreFault.TheVariants.{Memory};
-ghost use Rattle.vo_wire.specs.Answering.{FitsFrame, refusal, code_of, frame_answer, told_code};
+ghost use Rattle.vo_wire.specs.Answering.{FitsFrame, refusal_answer, code_of, frame_answer, told_code};
 
 use link_frames::{Frame, FrameKind};
 use std::alloc::{AllocError, Global};
@@ -11,8 +11,8 @@ use vo_store::StoreFault;
 pub(crate) const NO_QUERY: u8 = 1;
 
 /// A refusal with this code.
-pub(crate) fn refusal(alloc: Global, code: u8) -> Result<Option<Frame>, AllocError>
-    ensures answer { IfOk result (λ answer. frame_answer answer ≡ Some (refusal code)) }
+pub(crate) fn refusal_frame(alloc: Global, code: u8) -> Result<Option<Frame>, AllocError>
+    ensures answer { IfOk result (λ answer. frame_answer answer ≡ Some (refusal_answer code)) }
     ensures fits { IfOk result FitsFrame }
 {
     let mut body = Vec::new(alloc);
@@ -25,12 +25,13 @@ pub(crate) fn refusal(alloc: Global, code: u8) -> Result<Option<Frame>, AllocErr
 
 /// A refusal of a store's, but for want of memory.
 pub(crate) fn refusal_by(alloc: Global, fault: StoreFault) -> Result<Option<Frame>, AllocError>
-    ensures answer { IfOk result (λ answer. frame_answer answer ≡ Some (refusal (code_of fault))) }
+    ensures answer { IfOk result (λ answer. frame_answer answer
+        ≡ Some (refusal_answer (code_of fault))) }
     ensures fits { IfOk result FitsFrame }
     ensures memory { fault ≡ Memory → IsErr result }
 {
     match told_code(fault) {
-        Some(code) => refusal(alloc, code),
+        Some(code) => refusal_frame(alloc, code),
         None => Err(AllocError),
     }
 }

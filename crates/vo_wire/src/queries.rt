@@ -6,7 +6,7 @@ ghost use Rattle.store_requests.specs.Texts.{query_in};
 ghost use Rattle.vo_store.specs.Calls.{Gives};
 ghost use Rattle.vo_wire.specs.Answering.{FitsFrame, answer_by, query_answer, query_at_answer, reply_answer, frame_answer};
 
-use crate::answers::{NO_QUERY, refusal, refusal_by};
+use crate::answers::{NO_QUERY, refusal_by, refusal_frame};
 use link_frames::{Frame, FrameKind};
 use std::alloc::{AllocError, Global};
 use store_requests::{read_query, read_query_at};
@@ -42,7 +42,7 @@ pub(crate) fn answer_query(
 {
     match read_query(alloc, text) {
         Ok(Some(query)) => reply(alloc, store, at, &query),
-        Ok(None) => refusal(alloc, NO_QUERY),
+        Ok(None) => refusal_frame(alloc, NO_QUERY),
         Err(error) => Err(error),
     }
 }

@@ -8,7 +8,7 @@ ghost use Rattle.workload_run.specs.Readers.{IsAnswer, IsExact};
 
 use lms_sign::PublicKey;
 use std::alloc::{AllocError, Global};
-use vo_audit::{Auditor, JournalFault};
+use vo_audit::{Auditor, JournalReadFault};
 use vo_check::Client;
 use vo_spec::{Answer, AuditFault, CheckFault, QueryText, Verdict};
 
@@ -34,8 +34,8 @@ pub(crate) fn readers_of<'b>(
     let client = Client::new(key, 0);
     match Auditor::new(alloc, key, journal, version) {
         Ok(auditor) => Ok(Readers { client, auditor }),
-        Err(JournalFault::Memory) => Err(AllocError),
-        Err(JournalFault::BadAt { .. }) => unreachable!(),
+        Err(JournalReadFault::Memory) => Err(AllocError),
+        Err(JournalReadFault::BadAt { .. }) => unreachable!(),
     }
 }
 

@@ -9,7 +9,7 @@ ghost use Rattle.stored_tables.specs.Representation.{IsStanding};
 ghost use Rattle.vo_audit.specs.Departures.{DepartBy, IsDeparture};
 ghost use Rattle.vo_audit.specs.Evidence.{AreHashedInBatch, AreHashedInTurn};
 
-use crate::departures::commands::{compare_taken, tables_after, trees_after};
+use crate::departures::commands::{compare_taken, tables_after_command, trees_after};
 use mb_tree::PartTree;
 use std::alloc::{AllocError, Global};
 use stored_tables::StoredTables;
@@ -36,7 +36,7 @@ fn collision_of_commands(
         if let Some(found) = found {
             return Ok(found);
         }
-        current = tables_after(alloc, &current, command, left)?;
+        current = tables_after_command(alloc, &current, command, left)?;
         left = trees_after(command, left);
     }
     unreachable!()

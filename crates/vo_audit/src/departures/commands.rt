@@ -60,7 +60,7 @@ pub(crate) fn trees_after<'p, 'b>(
 }
 
 /// The tables after a command that is followed by a part of its table's tree.
-pub(crate) fn tables_after(
+pub(crate) fn tables_after_command(
     alloc: Global,
     tables: &StoredTables,
     command: &Command,

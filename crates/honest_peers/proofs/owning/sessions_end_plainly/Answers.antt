@@ -1,4 +1,4 @@
-use Rattle.owner_session.specs.Work.{session}
+use Rattle.owner_session.specs.SessionWork.{session}
 use Rattle.vo_commands.specs.Committing.{entry_forms}
 use Rattle.honest_peers.proofs.ServedConnections.{served_answers}
 use Rattle.honest_peers.proofs.Sessions.{session_ends}

@@ -9,7 +9,7 @@ overflow_add-result g c = omega (arith, below_limit c.args.head.kind c.args.head
 pub returns-in-Ok-2-clause-known : goal.returns-in-Ok-2-clause-known
 returns-in-Ok-2-clause-known g c =
     λ before is. body_whole c.args.head.kind c.args.head.length c.in-Ok.came (g.G.Gathers.gathered c.args.into.now)
-    (g.G.Gathers.gathered c.hand_on.new.into) before (g.L.Link.wire c.hand_on.new.link) c.if-came-head.false
+    (g.G.Gathers.gathered c.gather_bytes.new.into) before (g.L.Link.wire c.gather_bytes.new.link) c.if-came-head.false
     (c.in-Ok.ensures.known before is)
 
 pub returns-in-Err-LinkFault-clause-known : goal.returns-in-Err-LinkFault-clause-known

@@ -6,7 +6,7 @@ use Rattle.vo_spec.specs.Ots.{digits_of}
 use Rattle.vo_spec.specs.Lms.{ots_part}
 use Rattle.lm_ots.proofs.Forms.{length_by_form}
 use Rattle.lms_forge.specs.Forgeries.{forgery}
-use Rattle.lms_forge.specs.Shown.{forged_digits}
+use Rattle.lms_forge.specs.ChainValues.{forged_digits}
 use Rattle.lms_forge.specs.Parts.{PartsCompared}
 use Rattle.lms_forge.specs.Lowering.{ReleasedCompared}
 use Rattle.lms_forge.proofs.ExplainLaws.{are_others, from_chain, parts_same}

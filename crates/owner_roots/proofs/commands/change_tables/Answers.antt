@@ -1,5 +1,5 @@
 use Rattle.std.proofs.Common.{sym, ap, ◌∙◌, subst}
-use Rattle.owner_roots.specs.Next.{place_of, place_for, new_table}
+use Rattle.owner_roots.specs.Next.{table_number, place_for, new_table}
 use Rattle.owner_roots.specs.Working.{FitCatalog}
 use Rattle.owner_roots.proofs.CatalogLaws.{removed_fit}
 use Rattle.owner_roots.proofs.CreatedTables.{inserted_so}
@@ -15,4 +15,4 @@ returns-in_ok-insert-in-Create-clause-within c =
 
 pub returns-in-Drop-clause-within : goal.returns-in-Drop-clause-within
 returns-in-Drop-clause-within c =
-    subst FitCatalog (sym c.drop_table.ensures) (removed_fit c.args.tables.now.items (place_of _ c.args.tables.now.items) c.requires.within)
+    subst FitCatalog (sym c.drop_table.ensures) (removed_fit c.args.tables.now.items (table_number _ c.args.tables.now.items) c.requires.within)

@@ -3,7 +3,7 @@ use Rattle.std.specs.Prelude.{slice_get, slice_set}
 use Rattle.mb_tree.specs.View.{part_of}
 use Rattle.vo_spec.specs.declared.records.CatalogTable.{CatalogTable}
 use Rattle.table_list.specs.TableHeaders.{command_name}
-use Rattle.owner_roots.specs.Next.{place_of, tables_with}
+use Rattle.owner_roots.specs.Next.{table_number, tables_with}
 use Rattle.owner_roots.specs.Seen.{table_with}
 use Rattle.owner_roots.specs.Working.{FitCatalog}
 use Rattle.owner_roots.proofs.CatalogLaws.{set_fit}
@@ -15,18 +15,18 @@ pub root_by_command-requires-clause-ready : goal.root_by_command-requires-clause
 root_by_command-requires-clause-ready c =
     let tables = c.args.tables.now.items in
     let command = c.args.command.now in
-    let is : c.place_of-place.result ≡ place_of (command_name command) tables =
-    c.place_of-place.ensures.place ∙ ap (λ n. place_of n c.as_slice.result.now) c.command_name.ensures ∙ ap (place_of (command_name command)) c.as_slice.ensures.value in
+    let is : c.table_number-place.result ≡ table_number (command_name command) tables =
+    c.table_number-place.ensures.place ∙ ap (λ n. table_number n c.as_slice.result.now) c.command_name.ensures ∙ ap (table_number (command_name command)) c.as_slice.ensures.value in
     ready command tables c.index.result.now c.requires.within c.requires.fits c.requires.allowed
-    (ap (slice_get tables) (sym is) ∙ get_there tables c.place_of-place.result c.index.result.now (omega arith) c.index.ensures)
+    (ap (slice_get tables) (sym is) ∙ get_there tables c.table_number-place.result c.index.result.now (omega arith) c.index.ensures)
 
 pub returns-in-Ok-clause-answer : goal.returns-in-Ok-clause-answer
 returns-in-Ok-clause-answer c =
     let tables = c.args.tables.now.items in
     let command = c.args.command.now in
-    let place = c.place_of-place.result in
-    let is : place ≡ place_of (command_name command) tables =
-    c.place_of-place.ensures.place ∙ ap (λ n. place_of n c.as_slice.result.now) c.command_name.ensures ∙ ap (place_of (command_name command)) c.as_slice.ensures.value in
+    let place = c.table_number-place.result in
+    let is : place ≡ table_number (command_name command) tables =
+    c.table_number-place.ensures.place ∙ ap (λ n. table_number n c.as_slice.result.now) c.command_name.ensures ∙ ap (table_number (command_name command)) c.as_slice.ensures.value in
     let within : place < length tables = omega arith in
     rows_at c.args.index command (map part_of c.args.trees.now) tables place c.index.result.now is (get_there tables place c.index.result.now within c.index.ensures)
     ∙ ap (tables_with place tables) c.in-Ok.ensures.answer
@@ -36,7 +36,7 @@ returns-in-Ok-clause-answer c =
 pub returns-in-Ok-clause-within : goal.returns-in-Ok-clause-within
 returns-in-Ok-clause-within c =
     let tables = c.args.tables.now.items in
-    let place = c.place_of-place.result in
+    let place = c.table_number-place.result in
     let within : place < length tables = omega arith in
     let same = c.set_root.ensures ∙ ap (λ (z : CatalogTable). table_with z c.in-Ok.after) (same_there tables place c.index.result.now c.index_mut.result.now within c.index.ensures c.index_mut.ensures.value) in
     subst (λ (z : CatalogTable). FitCatalog (slice_set tables place z)) (sym same)
@@ -46,8 +46,8 @@ pub returns-in-Err-clause-answer : goal.returns-in-Err-clause-answer
 returns-in-Err-clause-answer c =
     let tables = c.args.tables.now.items in
     let command = c.args.command.now in
-    let place = c.place_of-place.result in
-    let is : place ≡ place_of (command_name command) tables =
-    c.place_of-place.ensures.place ∙ ap (λ n. place_of n c.as_slice.result.now) c.command_name.ensures ∙ ap (place_of (command_name command)) c.as_slice.ensures.value in
+    let place = c.table_number-place.result in
+    let is : place ≡ table_number (command_name command) tables =
+    c.table_number-place.ensures.place ∙ ap (λ n. table_number n c.as_slice.result.now) c.command_name.ensures ∙ ap (table_number (command_name command)) c.as_slice.ensures.value in
     rows_refused {X = Unit {0}} (λ _. tables) c.args.index command (map part_of c.args.trees.now) tables place c.index.result.now c.in-Err.fault is
     (get_there tables place c.index.result.now (omega arith) c.index.ensures) c.in-Err.ensures.answer

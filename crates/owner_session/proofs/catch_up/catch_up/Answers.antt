@@ -1,6 +1,6 @@
 use Rattle.std.proofs.Common.{◌∙◌, refl, arith}
 use Rattle.link_frames.proofs.Results.{no_err}
-use Rattle.owner_session.specs.Work.{standing}
+use Rattle.owner_session.specs.SessionWork.{standing}
 use Rattle.owner_session.specs.Runs.{continuation_with}
 use Rattle.owner_session.proofs.WireLaws.{caught_up, not_caught_up, stays_then}
 use Rattle.owner_session.proofs.catch_up.catch_up.Goals as goal

@@ -1,7 +1,7 @@
 use Rattle.std.proofs.Common.{ℕ, ◌-◌, ◌∙◌, refl, arith}
 use Rattle.link_frames.proofs.Results.{no_err}
 use Rattle.std.specs.Global.{Vec}
-use Rattle.owner_session.specs.Work.{proposal}
+use Rattle.owner_session.specs.SessionWork.{proposal}
 use Rattle.owner_session.specs.Runs.{continuation_with}
 use Rattle.owner_session.proofs.WireLaws.{first_delivered, later_delivered, not_delivered, stays_then, some_entry}
 use Rattle.owner_session.proofs.catch_up.deliver_entry.Goals as goal

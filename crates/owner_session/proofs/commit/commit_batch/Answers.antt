@@ -1,6 +1,6 @@
 use Rattle.std.proofs.Common.{ℕ}
 use Rattle.std.specs.Global.{Vec}
-use Rattle.owner_session.specs.Work.{proposal}
+use Rattle.owner_session.specs.SessionWork.{proposal}
 use Rattle.owner_session.specs.Runs.{snapshot_of, continuation_with}
 use Rattle.owner_session.proofs.RunLaws.{link_faults}
 use Rattle.owner_session.proofs.WireLaws.{stays_then}

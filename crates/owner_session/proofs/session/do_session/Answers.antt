@@ -1,4 +1,4 @@
-use Rattle.owner_session.specs.Work.{catch_up}
+use Rattle.owner_session.specs.SessionWork.{catch_up}
 use Rattle.owner_session.specs.Runs.{snapshot_of, continuation}
 use Rattle.owner_session.proofs.RunLaws.{link_faults}
 use Rattle.owner_session.proofs.WireLaws.{stays_then}

@@ -2,7 +2,7 @@ use Rattle.std.proofs.Common.{◌≡◌, true, List, Err, ap, subst, length}
 use Rattle.std.proofs.lemmas.Result.{err_from_is_err_and}
 use Rattle.vo_spec.specs.declared.records.Entry.{Entry}
 use Rattle.vo_spec.specs.Owners.{AreLoadable, FailsAt, IsLoadable, IsUnloadableAt}
-use Rattle.owner_state.specs.declared.journals.JournalFault.TheVariants.{BadAt}
+use Rattle.owner_state.specs.declared.journals.JournalReadFault.TheVariants.{BadAt}
 use Rattle.owner_state.specs.Walking.{StopsAt}
 use Rattle.owner_state.proofs.SlotLaws.{AreSlots, fails_behind, fails_inside, not_whole, whole}
 use Rattle.owner_state.proofs.journals.read_loadable.Goals as goal

@@ -3,7 +3,7 @@ use Rattle.std.proofs.lemmas.Result.{err_from_is_err_and}
 use Rattle.vo_spec.specs.declared.records.Entry.{Entry}
 use Rattle.vo_spec.specs.Owners.{FailsAt}
 use Rattle.owner_roots.specs.Owners.{AreOwned, IsBadAt, IsOwned}
-use Rattle.owner_state.specs.declared.journals.JournalFault.TheVariants.{BadAt}
+use Rattle.owner_state.specs.declared.journals.JournalReadFault.TheVariants.{BadAt}
 use Rattle.owner_state.specs.Walking.{StopsAt}
 use Rattle.owner_state.proofs.SlotLaws.{AreSlots, fails_behind, fails_inside, not_whole, whole}
 use Rattle.owner_state.proofs.journals.read_owned.Goals as goal

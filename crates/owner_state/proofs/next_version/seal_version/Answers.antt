@@ -25,12 +25,12 @@ returns c =
     let done : work_all batch stored ≡ Ok after =
     work_done batch stored after
     (ap (work_from 0 batch) (sym c.replace-tables.ensures.value) ∙ ap (λ (xs : List Command). work_from 0 xs c.replace-tables.result) (sym c.as_slice.ensures) ∙ c.in-Ok.ensures.answer) in
-    let proofs : c.work_batch.new.proofs.items ≡ honest =
+    let proofs : c.apply_with_proofs.new.proofs.items ≡ honest =
     c.in-Ok.ensures.proofs
     ∙ ap (λ (bytes : List ℕ). bytes ++ proofs_bytes (honest_proofs c.as_slice.result.now c.replace-tables.result)) c.new-proofs.ensures.items
     ∙ ap (λ (xs : List Command). proofs_bytes (honest_proofs xs c.replace-tables.result)) c.as_slice.ensures
     ∙ ap (λ (ss : List Stored). proofs_bytes (honest_proofs batch ss)) c.replace-tables.ensures.value in
-    let entry : c.in_ok-entry.entry ≡ signed_entry before.key (honest_roots version after) batch c.work_batch.new.proofs.items = rw c.prepare.ensures at c.in_ok-entry.ensures.entry in (
+    let entry : c.in_ok-entry.entry ≡ signed_entry before.key (honest_roots version after) batch c.apply_with_proofs.new.proofs.items = rw c.prepare.ensures at c.in_ok-entry.ensures.entry in (
       left_over c.is_spent.result (secret_leaves before.key) before.roots.version c.is_spent.ensures.spent.1 c.if-is_spent.false,
       done,
       c.in_ok-put_slot.ensures.ok

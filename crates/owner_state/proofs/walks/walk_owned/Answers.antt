@@ -1,5 +1,5 @@
 use Rattle.std.proofs.Common.{◌≡◌, Err, ap}
-use Rattle.owner_state.specs.declared.journals.JournalFault.TheVariants.{BadAt}
+use Rattle.owner_state.specs.declared.journals.JournalReadFault.TheVariants.{BadAt}
 use Rattle.owner_state.proofs.walks.walk_owned.Goals as goal
 
 pub returns-in-Err-clause-bad : goal.returns-in-Err-clause-bad

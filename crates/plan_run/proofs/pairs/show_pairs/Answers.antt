@@ -8,13 +8,13 @@ use Rattle.mb_tree.specs.View.{part_of}
 use Rattle.query_plan.specs.BoundViews.{join_seen}
 use Rattle.query_plan.specs.Plans.{QueryPlan}
 use Rattle.query_plan.specs.PlanViews.{plan_seen}
-use Rattle.plan_run.specs.declared.left_views.Shown.{Shown}
+use Rattle.plan_run.specs.declared.left_views.RowsAndNeeds.{RowsAndNeeds}
 use Rattle.plan_run.specs.Running.{ShowsPairs, AddsPairs, stops_at}
 use Rattle.plan_run.proofs.AnswerSteps.{any_row_view}
 use Rattle.plan_run.proofs.pairs.show_pairs.Goals as goal
 
 -- a fault of one left row is one of all
-fault_on : (fault : ScanFault) (old new : Shown) (p : QueryPlan) (on : ColumnPlace × ColumnPlace) (left : RowView) (lefts : List RowView) (tree : RowTree)
+fault_on : (fault : ScanFault) (old new : RowsAndNeeds) (p : QueryPlan) (on : ColumnPlace × ColumnPlace) (left : RowView) (lefts : List RowView) (tree : RowTree)
     → (stops_at p on tree left ≡ true → list_any (stops_at p on tree) lefts ≡ true)
     → AddsPairs (Err fault) old new p on left tree → ShowsPairs (Err fault) p on lefts tree
 fault_on Missing old new p on left lefts tree more h = more h

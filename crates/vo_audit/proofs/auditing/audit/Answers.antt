@@ -4,7 +4,7 @@ use Rattle.vo_spec.specs.declared.checks.AuditFault.TheVariants.{BadJournal}
 use Rattle.vo_spec.specs.declared.checks.CheckFault.{CheckFault}
 use Rattle.vo_spec.specs.Conditions.{query_of}
 use Rattle.vo_format.specs.declared.reply.Reply.{Reply as ReadReply}
-use Rattle.owner_state.specs.declared.journals.JournalFault.{JournalFault}
+use Rattle.owner_state.specs.declared.journals.JournalReadFault.{JournalReadFault}
 use Rattle.owner_state.specs.declared.journals.OwnedJournal.{OwnedJournal}
 use Rattle.vo_audit.specs.Auditing.{IsReadAt, version_of}
 use Rattle.vo_audit.proofs.AcceptedLaws.{told_bad}
@@ -26,5 +26,5 @@ audit_read-requires-clause-read c =
 pub returns-in-Err-BadAt-clause-verdict : goal.returns-in-Err-BadAt-clause-verdict
 returns-in-Err-BadAt-clause-verdict c =
     told_bad c.args.key.now c.args.journal.now c.args.reply.now (query_of c.args.query.now) c.in-Err-BadAt.index _
-    (c.in-Err-BadAt.ensures.bad c.in-Err-BadAt.index (ap (λ (f : JournalFault). Err f) c.in-Err-BadAt.field-0-is))
+    (c.in-Err-BadAt.ensures.bad c.in-Err-BadAt.index (ap (λ (f : JournalReadFault). Err f) c.in-Err-BadAt.field-0-is))
     (ap (λ (i : ℕ). Err (BadJournal i)) c.in-Err-BadAt.index-is)

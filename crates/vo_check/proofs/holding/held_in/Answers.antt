@@ -38,14 +38,14 @@ returns-in-Trees-clause-kept c = λ q bytes stands kept within going.
     let here = subst (λ (p : Progress). StandsBehind q p bytes) c.in-Trees.is stands in
     absurd (not_both q here.0 kept)
 
-pub returns-in-Kept-clause-front : goal.returns-in-Kept-clause-front
-returns-in-Kept-clause-front c = λ q bytes stands streamed none within going.
-    let here = subst (λ (p : Progress). StandsBehind q p bytes) c.in-Kept.is stands in
+pub returns-in-Buffered-clause-front : goal.returns-in-Buffered-clause-front
+returns-in-Buffered-clause-front c = λ q bytes stands streamed none within going.
+    let here = subst (λ (p : Progress). StandsBehind q p bytes) c.in-Buffered.is stands in
     absurd (not_both q streamed here.0)
 
-pub returns-in-Kept-clause-needed : goal.returns-in-Kept-clause-needed
-returns-in-Kept-clause-needed c = λ q bytes stands streamed has.
-    let here = subst (λ (p : Progress). StandsBehind q p bytes) c.in-Kept.is stands in
+pub returns-in-Buffered-clause-needed : goal.returns-in-Buffered-clause-needed
+returns-in-Buffered-clause-needed c = λ q bytes stands streamed has.
+    let here = subst (λ (p : Progress). StandsBehind q p bytes) c.in-Buffered.is stands in
     absurd (not_both q streamed here.0)
 
 pub returns-in-Head-clause-found : goal.returns-in-Head-clause-found
@@ -59,7 +59,7 @@ returns-in-Trees-clause-found c = λ q bytes head trees stands streamed parts wi
     let all = whole_held q c.in-Trees.reply bytes head trees here.1 parts in
     omega (arith, all.0, c.held-in-Trees.ensures.found trees all.1, c.size.ensures, c.saturating_add.ensures)
 
-pub returns-in-Kept-clause-found : goal.returns-in-Kept-clause-found
-returns-in-Kept-clause-found c = λ q bytes head trees stands streamed parts within going.
-    let here = subst (λ (p : Progress). StandsBehind q p bytes) c.in-Kept.is stands in
+pub returns-in-Buffered-clause-found : goal.returns-in-Buffered-clause-found
+returns-in-Buffered-clause-found c = λ q bytes head trees stands streamed parts within going.
+    let here = subst (λ (p : Progress). StandsBehind q p bytes) c.in-Buffered.is stands in
     absurd (not_both q streamed here.0)

@@ -1,6 +1,6 @@
 use Rattle.std.proofs.Common.{ℕ, List}
 use Rattle.outside.specs.Shelf.{Files}
-use Rattle.vo_words.specs.Shapes.{plain_shape}
+use Rattle.cli_args.specs.Shapes.{plain_shape}
 use Rattle.vo_commands.specs.Expected.{Explains, OfQuery, explain_expected, with_same_key, journal_limit, key_limit, reply_limit, with_file, with_key, with_seed}
 use Rattle.vo_commands.proofs.CommandSteps.{key_and_journal_known}
 use Rattle.vo_commands.proofs.TakingSteps.{lacks_behind, lacks_it, takes_more}

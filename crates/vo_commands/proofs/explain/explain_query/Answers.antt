@@ -1,4 +1,4 @@
-use Rattle.vo_words.specs.Shapes.{plain_shape}
+use Rattle.cli_args.specs.Shapes.{plain_shape}
 use Rattle.vo_commands.specs.Expected.{Explains, with_same_key, reply_limit, with_file, with_seed}
 use Rattle.vo_commands.proofs.CommandSteps.{query_known}
 use Rattle.vo_commands.proofs.TakingSteps.{takes_query}

@@ -1,4 +1,4 @@
-use Rattle.vo_words.specs.Shapes.{plain_shape}
+use Rattle.cli_args.specs.Shapes.{plain_shape}
 use Rattle.vo_commands.proofs.Steps.{seed_goes_on}
 use Rattle.vo_commands.proofs.files.take_seed.Goals as goal
 

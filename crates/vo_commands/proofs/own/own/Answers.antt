@@ -2,7 +2,7 @@ use Rattle.std.proofs.Common.{refl}
 use Rattle.outside.specs.FaultRose.{FaultRose}
 use Rattle.owner_session.proofs.SessionLaws.{rose_later}
 use Rattle.vo_spec.specs.Secret.{Secret}
-use Rattle.vo_words.specs.Shapes.{plain_shape}
+use Rattle.cli_args.specs.Shapes.{plain_shape}
 use Rattle.vo_commands.specs.Owning.{CommitsNothing, commitment_expected}
 use Rattle.vo_commands.proofs.OwnSteps.{left_alone, nothing_with_key, run_with_key, run_without_key}
 use Rattle.vo_commands.proofs.own.own.Goals as goal

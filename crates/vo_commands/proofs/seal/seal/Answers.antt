@@ -2,7 +2,7 @@ use Rattle.std.proofs.lemmas.Result.{err_from_is_err_and}
 use Rattle.outside.specs.Shelf.{Files}
 use Rattle.vo_spec.specs.Secret.{Secret}
 use Rattle.vo_commands.specs.Expected.{script_expected, script_limit, seal_expected, seed_limit, with_file, with_seed}
-use Rattle.vo_words.specs.Shapes.{plain_shape}
+use Rattle.cli_args.specs.Shapes.{plain_shape}
 use Rattle.vo_commands.proofs.CommandSteps.{seal_known}
 use Rattle.vo_commands.proofs.TakingSteps.{lacks_behind, lacks_it, takes_first, takes_more}
 use Rattle.vo_commands.proofs.seal.seal.Goals as goal

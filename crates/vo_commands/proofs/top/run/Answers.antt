@@ -1,10 +1,10 @@
 use Rattle.std.proofs.Common.{◌≡◌, Some, IfSome, refl, sym, ap, ◌∙◌, subst, option_map, map, string_bytes}
-use Rattle.vo_words.specs.PlainRequest.{request_in}
-use Rattle.vo_words.specs.declared.request.Request.TheVariants.{Own, Serve}
+use Rattle.cli_args.specs.PlainRequest.{request_in}
+use Rattle.cli_args.specs.declared.request.Request.TheVariants.{Own, Serve}
 use Rattle.vo_commands.specs.Expected.{words_expected}
 use Rattle.vo_commands.specs.Owning.{CommitsNothing}
 use Rattle.vo_commands.specs.Taking.{LacksFile}
-use Rattle.vo_words.specs.Request.{plain_command, plain_request}
+use Rattle.cli_args.specs.Request.{plain_command, plain_request}
 use Rattle.vo_commands.proofs.Endings.{asks_nothing, command_ends, ends_empty, left_as_it_was, own_ends_empty, serve_ends_empty}
 use Rattle.vo_commands.proofs.FilesThere.{none_missed}
 use Rattle.vo_commands.proofs.top.run.Goals as goal

@@ -1,6 +1,6 @@
 use Rattle.std.proofs.Common.{◌≡◌, ◌<◌, refl, ◌∙◌, arith}
 use Rattle.batch_format.specs.TreeReading.{tree_at}
-use Rattle.vo_format.specs.View.{trees_of}
+use Rattle.vo_format.specs.View.{row_trees_of}
 use Rattle.vo_format.proofs.Forms.{level_at, no_level}
 use Rattle.vo_format.proofs.Pushing.{push_step, push_fails}
 use Rattle.vo_format.proofs.tree_reading.+take_inner.Goals as goal
@@ -8,12 +8,12 @@ use Rattle.vo_format.proofs.tree_reading.+take_inner.Goals as goal
 pub each_child-returns-in-Err : goal.each_child-returns-in-Err
 each_child-returns-in-Err t c =
     let more : c.loop.counter < c.args.count = omega arith in
-    push_fails (tree_at c.args.levels) (λ (done : Unit {0}). trees_of c.push_child.new.children) trees_of c.in-Err.fault (trees_of c.loop.children) c.args.count c.loop.counter c.loop.cursor c.push_child.new.cursor _ _ more c.in-Err.ensures c.loop.invariant
+    push_fails (tree_at c.args.levels) (λ (done : Unit {0}). row_trees_of c.push_child.new.children) row_trees_of c.in-Err.fault (row_trees_of c.loop.children) c.args.count c.loop.counter c.loop.cursor c.push_child.new.cursor _ _ more c.in-Err.ensures c.loop.invariant
 
 pub each_child-loop-preserved : goal.each_child-loop-preserved
 each_child-loop-preserved t c =
     let more : c.loop.counter < c.args.count = omega arith in
-    push_step (tree_at c.args.levels) (trees_of c.loop.children) (trees_of c.push_child.new.children) c.args.count c.loop.counter c.loop.cursor c.push_child.new.cursor more c.in-Ok.ensures ∙ c.loop.invariant
+    push_step (tree_at c.args.levels) (row_trees_of c.loop.children) (row_trees_of c.push_child.new.children) c.args.count c.loop.counter c.loop.cursor c.push_child.new.cursor more c.in-Ok.ensures ∙ c.loop.invariant
 
 pub push_child-returns-then-levels-eq0 : goal.push_child-returns-then-levels-eq0
 push_child-returns-then-levels-eq0 t c =

@@ -3,7 +3,7 @@ use Rattle.vo_spec.specs.Fits.{max_levels}
 use Rattle.mb_tree.specs.View.{part_of}
 use Rattle.row_bytes.proofs.Rounds.{times_fails}
 use Rattle.batch_format.specs.TreeReading.{tree_at}
-use Rattle.vo_format.specs.View.{trees_of}
+use Rattle.vo_format.specs.View.{row_trees_of}
 use Rattle.vo_format.proofs.Forms.{one_more_tree}
 use Rattle.vo_format.proofs.Pushing.{no_matter_left}
 use Rattle.vo_format.proofs.tree_reading.take_trees.Goals as goal
@@ -11,8 +11,8 @@ use Rattle.vo_format.proofs.tree_reading.take_trees.Goals as goal
 pub returns-in-Err : goal.returns-in-Err
 returns-in-Err c =
     let more : c.loop.counter < c.args.count = omega arith in
-    no_matter_left trees_of c.in-Err.fault c.loop.cursor _ _
-    (times_fails (tree_at max_levels) part_of trees_of c.in-Err.fault (trees_of c.loop.trees) c.args.count c.loop.counter c.loop.cursor c.take_tree.new.cursor c.loop.cursor _ more c.in-Err.ensures.exact c.loop.invariant)
+    no_matter_left row_trees_of c.in-Err.fault c.loop.cursor _ _
+    (times_fails (tree_at max_levels) part_of row_trees_of c.in-Err.fault (row_trees_of c.loop.trees) c.args.count c.loop.counter c.loop.cursor c.take_tree.new.cursor c.loop.cursor _ more c.in-Err.ensures.exact c.loop.invariant)
 
 pub loop-preserved : goal.loop-preserved
 loop-preserved c =

@@ -6,7 +6,7 @@ use Rattle.query_binding.specs.declared.bound_sources.BoundSource.{BoundSource a
 use Rattle.query_binding.specs.HeldSources.{bound_sources_seen}
 use Rattle.query_plan.specs.Plans.{plan_need}
 use Rattle.query_plan.specs.PlanViews.{plan_seen}
-use Rattle.vo_format.specs.View.{trees_of}
+use Rattle.vo_format.specs.View.{row_trees_of}
 use Rattle.vo_store.specs.Proving.{HasTables}
 use Rattle.vo_store.proofs.ProofLaws.{beside, made_alone}
 use Rattle.vo_store.proofs.proving.plan_proofs.Goals as goal
@@ -29,6 +29,6 @@ returns-in-None c =
     let p = plan_seen c.args.plan.now in
     let stored = c.args.tables.now in
     let one : (length (bound_sources_seen c.args.plan.now.query.now.bound_sources) == 1) ≡ true = ap (λ (r : Option HeldBoundSource). length (beside c.args.plan.now.query.now.bound_sources.left r) == 1) c.in-None.is in
-    subst (λ trees. IfOk c.proofs_of_one.result (λ proofs. trees_of proofs ≡ trees))
+    subst (λ trees. IfOk c.proofs_of_one.result (λ proofs. row_trees_of proofs ≡ trees))
     (ap (λ (t : RowTree). prune_tree (plan_need p t ∷ []) t ∷ []) c.tree_of-left.ensures ∙ made_alone p stored one)
     c.proofs_of_one.ensures

@@ -7,7 +7,7 @@ use Rattle.vo_spec.specs.Results.{schema_at, bound_sources, binding_fault}
 use Rattle.vo_spec.specs.Scans.{seen}
 use Rattle.vo_spec.specs.Honest.{Stored, catalog_of}
 use Rattle.stored_tables.specs.Representation.{IsStanding}
-use Rattle.vo_format.specs.View.{trees_of}
+use Rattle.vo_format.specs.View.{row_trees_of}
 use Rattle.query_plan.specs.BoundQueries.{BoundQuery, bound_query}
 use Rattle.query_plan.specs.BoundViews.{query_seen}
 use Rattle.query_plan.specs.Plans.{plan_of}
@@ -53,7 +53,7 @@ bound_proofs-requires-clause-shown c =
 
 pub returns-in-Ok : goal.returns-in-Ok
 returns-in-Ok c =
-    subst (λ trees. IfOk c.bound_proofs.result (λ proofs. trees_of proofs ≡ trees))
+    subst (λ trees. IfOk c.bound_proofs.result (λ proofs. row_trees_of proofs ≡ trees))
     (proofs_by c.args.tables.now c.requires.standing (query_of c.args.query.now) (table_headers c.args.catalog.now) (ap table_headers c.requires.catalog) (query_seen c.in-Ok.query) c.in-Ok.ensures.value c.in-Ok.ensures.fault)
     c.bound_proofs.ensures
 

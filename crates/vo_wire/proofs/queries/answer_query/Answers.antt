@@ -16,4 +16,4 @@ pub returns-in-Ok-None-clause-answer : goal.returns-in-Ok-None-clause-answer
 returns-in-Ok-None-clause-answer c =
     let is : None ≡ query_in c.args.text.now =
     subst (λ (o : Option QueryText). option_map query_of o ≡ query_in c.args.text.now) c.in-Ok-None.field-0-is c.in-Ok-None.ensures in
-    subst (λ (o : Option Query). IfOk c.refusal.result (λ answer. frame_answer answer ≡ Some (query_answer c.args.store.now c.args.at o))) is c.refusal.ensures.answer
+    subst (λ (o : Option Query). IfOk c.refusal_frame.result (λ answer. frame_answer answer ≡ Some (query_answer c.args.store.now c.args.at o))) is c.refusal_frame.ensures.answer

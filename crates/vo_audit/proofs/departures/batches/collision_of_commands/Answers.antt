@@ -18,8 +18,8 @@ compare_taken-requires-clause-followed c =
     (next_left c.args.commands.now i c.command-item.result left c.loop-command.current c.args.commands.now (map part_of c.args.trees.now) c.args.tables.now
     c.loop-command-test.true c.command-item.is c.loop-command.invariant)
 
-pub tables_after-requires-clause-followed : goal.tables_after-requires-clause-followed
-tables_after-requires-clause-followed c =
+pub tables_after_command-requires-clause-followed : goal.tables_after_command-requires-clause-followed
+tables_after_command-requires-clause-followed c =
     let i = c.loop-command.command-index in
     let left = map part_of c.loop-command.left.now in
     left_followed c.command-item.result (drop (i + 1) c.args.commands.now) left c.loop-command.current c.args.commands.now (map part_of c.args.trees.now) c.args.tables.now

@@ -1,6 +1,0 @@
-use Rattle.std.proofs.Common.{◌≡◌, ◌+◌, drop}
-use Rattle.owner_roots.specs.Next.{place_of}
-use Rattle.owner_roots.proofs.places.place_of.Given as goal
-
-abbrev pub invariant-loop-table : goal.invariant-loop-table
-invariant-loop-table l = (l.place ≡ l.table-index) × (l.place + place_of l.name (drop l.table-index l.tables) ≡ place_of l.name l.tables)
