@@ -4,20 +4,20 @@ use Rattle.std.specs.Prelude.{◌⊎◌, ℤ, pos, negsuc, FitsSigned, bytes_eq}
 use Rattle.std.specs.Int.{w64, w128, cast_unsigned, cast_signed}
 use Rattle.std.specs.List.{AllZip}
 use Rattle.std.proofs.Math.Nat.{div-add-mod, mod-lt}
-use Rattle.std.proofs.lemmas.Nat.{from_be_bytes-to_be_bytes_2, from_be_bytes-to_be_bytes_8}
 use Rattle.std.proofs.lemmas.Int.{to_z-of_z}
 use Rattle.std.proofs.lemmas.Bool.{cases_Bool}
 use Rattle.std.proofs.lemmas.Slice.Eq.{bytes_eq-Decides}
 use Rattle.sha2.specs.Sha256.{sha256}
 use Rattle.sha2.proofs.Facts256.{length-sha256}
-use Rattle.vo_spec.specs.Bytes.{string, u16_bytes, u16_of, u64_bytes, u64_of}
+use Rattle.vo_spec.specs.Bytes.{string, u64_bytes}
 use Rattle.vo_spec.specs.Collides.{Collides}
-use Rattle.vo_spec.specs.Fits.{FitsKey, FitsEach}
+use Rattle.vo_spec.specs.Fits.{FitsEach}
 use Rattle.vo_spec.specs.Parts.{stub, leaf, inner, none, more, count, child_bytes, leaf_bytes, inner_bytes, PrunesEach}
 use Rattle.totals_laws.specs.declared.totals.TotalEntry.{TotalEntry}
 use Rattle.totals_laws.specs.declared.totals.Totals.{Totals}
 use Rattle.totals_laws.specs.TotalsTrees.{TotalsPart, TotalsParts, sum_bytes, totals_bytes, total_entry_bytes, totals_family, digest, preimage, SameEntry, Prunes, FitsTotalEntry, FitsTotals, FitsCounts, AreCounted, EachCounted}
 use Rattle.totals_laws.specs.TotalsCollisions.{ArePreimagesIn, AreFound, SameChildren}
+use Rattle.vo_laws.proofs.ToldBytes.{same_pieces, string_told, strings_told, u64_told}
 use Rattle.totals_laws.proofs.Sums.{same_totals}
 use Rattle.std.proofs.Common.{Option, Some, None}
 use Rattle.std.proofs.lemmas.Int.{SFits-int_wrap}
@@ -25,46 +25,7 @@ use Rattle.vo_spec.specs.Inserts.{min_fill}
 use Rattle.vo_spec.specs.Representation.{IsNode, AreNodes, IsTree, fewest_in_root}
 use Rattle.totals_laws.specs.TotalsTrees.{reduced, totals_of, totals_of_entries, totals_of_children}
 
--- Bytes that are read back. (As in the laws of values and of preimages of rows.)
-
-u64_again : (n : ℕ) → n < 2 ^ 64 → u64_of (u64_bytes n) ≡ n
-unfolding u64_bytes u64_of
-u64_again n lt = from_be_bytes-to_be_bytes_8 n lt
-
-u64_length : (n : ℕ) → length (u64_bytes n) ≡ 8
-unfolding u64_bytes
-u64_length n = refl
-
-u16_again : (n : ℕ) → n < 2 ^ 16 → u16_of (u16_bytes n) ≡ n
-unfolding u16_bytes u16_of
-u16_again n lt = from_be_bytes-to_be_bytes_2 n lt
-
-u16_length : (n : ℕ) → length (u16_bytes n) ≡ 2
-unfolding u16_bytes
-u16_length n = refl
-
--- fronts of one length
-split_same : (a b x y : List ℕ) → length a ≡ length b → a ++ x ≡ b ++ y → (a ≡ b) × (x ≡ y)
-split_same [] [] x y h e = (refl, e)
-split_same [] (b ∷ bs) x y h e = absurd (omega arith)
-split_same (a ∷ ks) [] x y h e = absurd (omega arith)
-split_same (a ∷ ks) (b ∷ bs) x y h e =
-    let first : a ≡ b = cc in
-    let rest : ks ++ x ≡ bs ++ y = cc in
-    let both = split_same ks bs x y (omega arith) rest in
-    let front : ks ≡ bs = both.0 in ((cc), both.1)
-
-string_same : (k l x y : List ℕ) → FitsKey k → FitsKey l → string k ++ x ≡ string l ++ y → (k ≡ l) × (x ≡ y)
-string_same k l x y f g e =
-    let whole : u16_bytes (length k) ++ (k ++ x) ≡ u16_bytes (length l) ++ (l ++ y) = sym (append_assoc (u16_bytes (length k)) k x) ∙ e ∙ append_assoc (u16_bytes (length l)) l y in
-    let two = split_same (u16_bytes (length k)) (u16_bytes (length l)) (k ++ x) (l ++ y) (u16_length (length k) ∙ sym (u16_length (length l))) whole in
-    let lengths : length k ≡ length l = sym (u16_again (length k) (omega arith)) ∙ ap u16_of two.0 ∙ u16_again (length l) (omega arith) in
-    split_same k l x y lengths two.1
-
-number_same : (m n : ℕ) (x y : List ℕ) → m < 2 ^ 64 → n < 2 ^ 64 → u64_bytes m ++ x ≡ u64_bytes n ++ y → (m ≡ n) × (x ≡ y)
-number_same m n x y f g e =
-    let two = split_same (u64_bytes m) (u64_bytes n) x y (u64_length m ∙ sym (u64_length n)) e in
-    (sym (u64_again m f) ∙ ap u64_of two.0 ∙ u64_again n g, two.1)
+-- Bytes that are read back.
 
 bits_below : (z : ℤ) → FitsSigned w128 z → cast_unsigned w128 z < 2 ^ 128
 bits_below (pos n) f = omega (arith, f.sfits)
@@ -86,8 +47,8 @@ sum_same a b x y f g e =
     let n_low : n < 2 ^ 128 = bits_below b g in
     let whole : u64_bytes (m / 2 ^ 64) ++ (u64_bytes (m % 2 ^ 64) ++ x) ≡ u64_bytes (n / 2 ^ 64) ++ (u64_bytes (n % 2 ^ 64) ++ y)
     = sym (append_assoc (u64_bytes (m / 2 ^ 64)) (u64_bytes (m % 2 ^ 64)) x) ∙ e ∙ append_assoc (u64_bytes (n / 2 ^ 64)) (u64_bytes (n % 2 ^ 64)) y in
-    let high = number_same (m / 2 ^ 64) (n / 2 ^ 64) _ _ (half_below m m_low) (half_below n n_low) whole in
-    let low = number_same (m % 2 ^ 64) (n % 2 ^ 64) x y (mod-lt m (omega arith)) (mod-lt n (omega arith)) high.1 in
+    let high = u64_told (m / 2 ^ 64) (n / 2 ^ 64) _ _ (half_below m m_low) (half_below n n_low) whole in
+    let low = u64_told (m % 2 ^ 64) (n % 2 ^ 64) x y (mod-lt m (omega arith)) (mod-lt n (omega arith)) high.1 in
     let bits : m ≡ n = halves_same m n high.0 low.0 in
     (sym (to_z-of_z w128 a f) ∙ ap (cast_signed w128) bits ∙ to_z-of_z w128 b g, low.1)
   where
@@ -97,7 +58,7 @@ sum_same a b x y f g e =
 totals_same : (a b : Totals) (x y : List ℕ) → FitsCounts a → FitsCounts b → totals_bytes a ++ x ≡ totals_bytes b ++ y → (a ≡ b) × (x ≡ y)
 totals_same a b x y f g e =
     let whole : u64_bytes a.count ++ (sum_bytes a.sum ++ x) ≡ u64_bytes b.count ++ (sum_bytes b.sum ++ y) = sym (append_assoc (u64_bytes a.count) (sum_bytes a.sum) x) ∙ e ∙ append_assoc (u64_bytes b.count) (sum_bytes b.sum) y in
-    let counts = number_same a.count b.count _ _ f.count g.count whole in
+    let counts = u64_told a.count b.count _ _ f.count g.count whole in
     let sums = sum_same a.sum b.sum x y f.sum g.sum counts.1 in
     (same_totals a.count b.count a.sum b.sum counts.0 sums.0, sums.1)
 
@@ -123,21 +84,10 @@ entries_same (x ∷ es) (y ∷ fs) h f g e =
     let n = cast_unsigned w64 y.value in
     let whole : string x.key ++ (u64_bytes m ++ flat_map total_entry_bytes es) ≡ string y.key ++ (u64_bytes n ++ flat_map total_entry_bytes fs)
     = sym (append_assoc (string x.key) (u64_bytes m) (flat_map total_entry_bytes es)) ∙ e ∙ append_assoc (string y.key) (u64_bytes n) (flat_map total_entry_bytes fs) in
-    let keys = string_same x.key y.key _ _ fx.key fy.key whole in
-    let values = number_same m n _ _ (small_below x.value fx.value) (small_below y.value fy.value) keys.1 in
+    let keys = string_told x.key y.key _ _ fx.key fy.key whole in
+    let values = u64_told m n _ _ (small_below x.value fx.value) (small_below y.value fy.value) keys.1 in
     let value : x.value ≡ y.value = sym (to_z-of_z w64 x.value fx.value) ∙ ap (cast_signed w64) values.0 ∙ to_z-of_z w64 y.value fy.value in
     (same_entry x y keys.0 value, entries_same es fs (omega arith) (λ k z l. f (suc k) z (omega arith)) (λ k z l. g (suc k) z (omega arith)) values.1)
-
-separators_same : (ss ts : List (List ℕ)) (x y : List ℕ) → length ss ≡ length ts → All FitsKey ss → All FitsKey ts → flat_map string ss ++ x ≡ flat_map string ts ++ y → (ss ≡ ts) × (x ≡ y)
-separators_same [] [] x y h f g e = (refl, e)
-separators_same [] (t ∷ ts) x y h f g e = absurd (omega arith)
-separators_same (s ∷ ss) [] x y h f g e = absurd (omega arith)
-separators_same (s ∷ ss) (t ∷ ts) x y h f g e =
-    let whole : string s ++ (flat_map string ss ++ x) ≡ string t ++ (flat_map string ts ++ y) = sym (append_assoc (string s) (flat_map string ss) x) ∙ e ∙ append_assoc (string t) (flat_map string ts) y in
-    let first = string_same s t _ _ (f 0 s (omega arith)) (g 0 t (omega arith)) whole in
-    let rest = separators_same ss ts x y (omega arith) (λ k z l. f (suc k) z (omega arith)) (λ k z l. g (suc k) z (omega arith)) first.1 in
-    let key : s ≡ t = first.0 in
-    let keys : ss ≡ ts = rest.0 in ((cc), rest.1)
 
 -- each child's totals have so many bits
 abbrev pub EachHeld : TotalsParts → Type 0
@@ -154,7 +104,7 @@ children_same none none h f g a b e = tt
 children_same none (more n q qs) h f g a b e = absurd (omega arith)
 children_same (more m p ps) none h f g a b e = absurd (omega arith)
 children_same (more m p ps) (more n q qs) h f g a b e =
-    let both = split_same (digest p) (digest q) _ _ (digest_length p f.0 ∙ sym (digest_length q g.0)) e in
+    let both = same_pieces (digest p) (digest q) _ _ (digest_length p f.0 ∙ sym (digest_length q g.0)) e in
     let totals = totals_same m n _ _ a.0 b.0 both.1 in
     (totals.0, both.0, children_same ps qs (omega arith) f.1 g.1 a.1 b.1 totals.1)
 
@@ -171,7 +121,7 @@ inner_same ss ts ps qs f g a b e =
     let rest : flat_map string ss ++ child_bytes totals_family ps ≡ flat_map string ts ++ child_bytes totals_family qs = cc in
     let x : length ss + 1 ≡ count ps = f.2 in
     let y : length ts + 1 ≡ count qs = g.2 in
-    let both = separators_same ss ts _ _ (omega arith) f.3 g.3 rest in
+    let both = strings_told ss ts _ _ (omega arith) f.3 g.3 rest in
     (both.0, children_same ps qs counts f.4 g.4 a b both.1)
 
 -- A whole tree of which the part isn't a part shows two strings of one digest, and only such a one.

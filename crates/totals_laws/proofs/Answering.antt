@@ -24,7 +24,7 @@ use Rattle.totals_laws.specs.declared.totals.TotalEntry.{TotalEntry}
 use Rattle.totals_laws.specs.declared.totals.Totals.{Totals}
 use Rattle.vo_laws.proofs.SeenLaws.{empty_has_none}
 use Rattle.vo_laws.proofs.CommandLaws.{filter_shorter, each_filter}
-use Rattle.totals_laws.proofs.Passing.{passed_by}
+use Rattle.vo_laws.proofs.ScanLaws.{passed_by}
 use Rattle.totals_laws.proofs.Sums.{reduced_plus, reduced_twice, totals_appended, kept_whole}
 
 -- Each parent holds of a child the totals of its entries, where it holds those of what the child

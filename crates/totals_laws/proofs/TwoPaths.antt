@@ -13,7 +13,7 @@ use Rattle.vo_spec.specs.Inserts.{min_fill}
 use Rattle.vo_spec.specs.Representation.{is_from, is_up_to, IsNode, AreNodes, IsTree, fewest_in_root}
 use Rattle.vo_spec.specs.Pruning.{pruned_by, pruned_in}
 use Rattle.vo_laws.proofs.KeyOrder.{key_lt_back, key_le_le, key_lt_le, key_le_lt}
-use Rattle.totals_laws.proofs.Heights.{node_levels, root_low}
+use Rattle.vo_laws.proofs.TreeLevels.{node_levels, root_low}
 use Rattle.totals_laws.specs.TotalsTrees.{TotalsPart, TotalsParts, totals_family}
 use Rattle.totals_laws.specs.TotalsProofs.{begins_inside, ends_inside, is_taken, Reach, passed, taken, visited, reach, child_end, is_visited, totals_walk, prune_totals, open_nodes, open_in}
 

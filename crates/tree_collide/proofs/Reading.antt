@@ -1,5 +1,5 @@
 -- A preimage is that of one node only: equal preimages have equal keys, separators and digests.
-use Rattle.std.proofs.Common.{◌≡◌, ℕ, suc, true, ◌+◌, List, [], ◌∷◌, ◌++◌, length, flat_map, refl, sym, ap, ◌∙◌, arith, append_assoc, All}
+use Rattle.std.proofs.Common.{◌≡◌, ℕ, suc, true, ◌+◌, List, [], ◌∷◌, ◌++◌, length, flat_map, sym, ap, ◌∙◌, arith, append_assoc, All}
 use Rattle.sha2.proofs.Facts256.{length-sha256}
 use Rattle.vo_spec.specs.declared.values.Value.{Value}
 use Rattle.vo_spec.specs.declared.cells.Cell.{Cell}
@@ -7,32 +7,15 @@ use Rattle.vo_spec.specs.declared.cells.Cell.TheVariants.{Shown, Hidden}
 use Rattle.vo_spec.specs.declared.cells.RowPart.{RowPart}
 use Rattle.vo_spec.specs.declared.cells.RowPart.TheVariants.{Digest as Closed, Cells}
 use Rattle.vo_spec.specs.declared.cells.PartEntry.{PartEntry}
-use Rattle.vo_spec.specs.Bytes.{string, u16_bytes, u16_of}
+use Rattle.vo_spec.specs.Bytes.{string}
 use Rattle.vo_spec.specs.Values.{value_bytes, FitsValue}
 use Rattle.vo_spec.specs.Cells.{cell_digest, cell_digests, row_bytes, row_digest, entry_bytes, attribute_bytes}
 use Rattle.vo_spec.specs.Parts.{stub, leaf, inner, none, more, count, child_bytes, leaf_bytes, inner_bytes}
 use Rattle.vo_spec.specs.Trees.{RowTree, RowTrees, digest, preimage, row_family}
-use Rattle.vo_spec.specs.Fits.{FitsCell, FitsRowPart, FitsEntry, FitsKey, FitsPart, FitsEach}
-use Rattle.row_bytes.proofs.ValueLaws.{u16_again, u16_length, one_value}
+use Rattle.vo_spec.specs.Fits.{FitsCell, FitsRowPart, FitsEntry, FitsPart, FitsEach}
+use Rattle.vo_laws.proofs.ToldBytes.{same_pieces, string_told, strings_told}
+use Rattle.row_bytes.proofs.ValueLaws.{one_value}
 use Rattle.tree_collide.specs.Agreements.{SameCells, SameEntries, SameNodes, IsLike, is_open}
-
--- fronts of one length
-split_same : (a b x y : List ℕ) → length a ≡ length b → a ++ x ≡ b ++ y → (a ≡ b) × (x ≡ y)
-split_same [] [] x y h e = (refl, e)
-split_same [] (b ∷ bs) x y h e = absurd (omega arith)
-split_same (a ∷ ks) [] x y h e = absurd (omega arith)
-split_same (a ∷ ks) (b ∷ bs) x y h e =
-    let first : a ≡ b = cc in
-    let rest : ks ++ x ≡ bs ++ y = cc in
-    let both = split_same ks bs x y (omega arith) rest in
-    let front : ks ≡ bs = both.0 in ((cc), both.1)
-
-string_same : (k l x y : List ℕ) → FitsKey k → FitsKey l → string k ++ x ≡ string l ++ y → (k ≡ l) × (x ≡ y)
-string_same k l x y f g e =
-    let whole : u16_bytes (length k) ++ (k ++ x) ≡ u16_bytes (length l) ++ (l ++ y) = sym (append_assoc (u16_bytes (length k)) k x) ∙ e ∙ append_assoc (u16_bytes (length l)) l y in
-    let two = split_same (u16_bytes (length k)) (u16_bytes (length l)) (k ++ x) (l ++ y) (u16_length (length k) ∙ sym (u16_length (length l))) whole in
-    let lengths : length k ≡ length l = sym (u16_again (length k) (omega arith)) ∙ ap u16_of two.0 ∙ u16_again (length l) (omega arith) in
-    split_same k l x y lengths two.1
 
 cell_digest_length : (column : ℕ) (c : Cell) → FitsCell c → length (cell_digest column c) ≡ 32
 cell_digest_length column (Shown v) f = length-sha256 (attribute_bytes column v)
@@ -52,7 +35,7 @@ cells_same n [] [] h f g e = tt
 cells_same n [] (d ∷ ds) h f g e = absurd (omega arith)
 cells_same n (c ∷ cs) [] h f g e = absurd (omega arith)
 cells_same n (c ∷ cs) (d ∷ ds) h f g e =
-    let both = split_same (cell_digest n c) (cell_digest n d) (cell_digests (n + 1) cs) (cell_digests (n + 1) ds) (cell_digest_length n c (f 0 c (omega arith)) ∙ sym (cell_digest_length n d (g 0 d (omega arith)))) e in
+    let both = same_pieces (cell_digest n c) (cell_digest n d) (cell_digests (n + 1) cs) (cell_digests (n + 1) ds) (cell_digest_length n c (f 0 c (omega arith)) ∙ sym (cell_digest_length n d (g 0 d (omega arith)))) e in
     (both.0, cells_same (n + 1) cs ds (omega arith) (λ k x l. f (suc k) x (omega arith)) (λ k x l. g (suc k) x (omega arith)) both.1)
 
 pub entries_same : (es fs : List PartEntry) → length es ≡ length fs → All FitsEntry es → All FitsEntry fs → flat_map entry_bytes es ≡ flat_map entry_bytes fs → SameEntries es fs
@@ -64,27 +47,16 @@ entries_same (x ∷ es) (y ∷ fs) h f g e =
     let fy = g 0 y (omega arith) in
     let whole : string x.key ++ (row_digest x.row ++ flat_map entry_bytes es) ≡ string y.key ++ (row_digest y.row ++ flat_map entry_bytes fs)
     = sym (append_assoc (string x.key) (row_digest x.row) (flat_map entry_bytes es)) ∙ e ∙ append_assoc (string y.key) (row_digest y.row) (flat_map entry_bytes fs) in
-    let keys = string_same x.key y.key _ _ fx.key fy.key whole in
-    let rows = split_same (row_digest x.row) (row_digest y.row) _ _ (row_digest_length x.row fx.row ∙ sym (row_digest_length y.row fy.row)) keys.1 in
+    let keys = string_told x.key y.key _ _ fx.key fy.key whole in
+    let rows = same_pieces (row_digest x.row) (row_digest y.row) _ _ (row_digest_length x.row fx.row ∙ sym (row_digest_length y.row fy.row)) keys.1 in
     (keys.0, rows.0, entries_same es fs (omega arith) (λ k z l. f (suc k) z (omega arith)) (λ k z l. g (suc k) z (omega arith)) rows.1)
-
-separators_same : (ss ts : List (List ℕ)) (x y : List ℕ) → length ss ≡ length ts → All FitsKey ss → All FitsKey ts → flat_map string ss ++ x ≡ flat_map string ts ++ y → (ss ≡ ts) × (x ≡ y)
-separators_same [] [] x y h f g e = (refl, e)
-separators_same [] (t ∷ ts) x y h f g e = absurd (omega arith)
-separators_same (s ∷ ss) [] x y h f g e = absurd (omega arith)
-separators_same (s ∷ ss) (t ∷ ts) x y h f g e =
-    let whole : string s ++ (flat_map string ss ++ x) ≡ string t ++ (flat_map string ts ++ y) = sym (append_assoc (string s) (flat_map string ss) x) ∙ e ∙ append_assoc (string t) (flat_map string ts) y in
-    let first = string_same s t _ _ (f 0 s (omega arith)) (g 0 t (omega arith)) whole in
-    let rest = separators_same ss ts x y (omega arith) (λ k z l. f (suc k) z (omega arith)) (λ k z l. g (suc k) z (omega arith)) first.1 in
-    let key : s ≡ t = first.0 in
-    let keys : ss ≡ ts = rest.0 in ((cc), rest.1)
 
 nodes_same : (ps qs : RowTrees) → count ps ≡ count qs → FitsEach FitsEntry ps → FitsEach FitsEntry qs → child_bytes row_family ps ≡ child_bytes row_family qs → SameNodes ps qs
 nodes_same none none h f g e = tt
 nodes_same none (more n q qs) h f g e = absurd (omega arith)
 nodes_same (more m p ps) none h f g e = absurd (omega arith)
 nodes_same (more m p ps) (more n q qs) h f g e =
-    let both = split_same (digest p) (digest q) (child_bytes row_family ps) (child_bytes row_family qs) (digest_length p f.0 ∙ sym (digest_length q g.0)) e in
+    let both = same_pieces (digest p) (digest q) (child_bytes row_family ps) (child_bytes row_family qs) (digest_length p f.0 ∙ sym (digest_length q g.0)) e in
     (both.0, nodes_same ps qs (omega arith) f.1 g.1 both.1)
 
 pub leaf_same : (es fs : List PartEntry) → All FitsEntry es → All FitsEntry fs → leaf_bytes row_family es ≡ leaf_bytes row_family fs → SameEntries es fs
@@ -99,7 +71,7 @@ inner_same ss ts ps qs f g e =
     let rest : flat_map string ss ++ child_bytes row_family ps ≡ flat_map string ts ++ child_bytes row_family qs = cc in
     let a : length ss + 1 ≡ count ps = f.2 in
     let b : length ts + 1 ≡ count qs = g.2 in
-    let both = separators_same ss ts _ _ (omega arith) f.3 g.3 rest in
+    let both = strings_told ss ts _ _ (omega arith) f.3 g.3 rest in
     (both.0, nodes_same ps qs counts f.4 g.4 both.1)
 
 pub row_same : (cs ds : List Cell) → All FitsCell cs → All FitsCell ds → row_bytes cs ≡ row_bytes ds → SameCells 0 cs ds

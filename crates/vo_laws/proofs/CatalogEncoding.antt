@@ -1,64 +1,22 @@
 -- Catalogs that fit are told from their bytes, so two of them with one digest give two strings with
 -- one digest.
-use Rattle.std.proofs.Common.{◌≡◌, ◌≢◌, ℕ, ◌+◌, ◌^◌, ◌<◌, ◌≤◌, Bool, true, false, cond, List, [], ◌∷◌, ◌++◌, length, refl, sym, ap, ◌∙◌, append_assoc, append-nil, arith}
+use Rattle.std.proofs.Common.{◌≡◌, ◌≢◌, ℕ, ◌+◌, ◌<◌, ◌≤◌, Bool, true, false, cond, List, [], ◌∷◌, ◌++◌, length, refl, sym, ap, ◌∙◌, append_assoc, append-nil, arith}
 use Rattle.std.specs.Prelude.{flat_map}
-use Rattle.std.specs.Int.{w16, w64, from_be_bytes}
 use Rattle.std.specs.List.{AllByRecursion}
 use Rattle.std.proofs.lemmas.Bool.{eq-eqb}
-use Rattle.std.proofs.lemmas.Nat.{from_be_bytes-to_be_bytes_2, from_be_bytes-to_be_bytes_8}
 use Rattle.vo_spec.specs.declared.values.Kind.{Kind}
 use Rattle.vo_spec.specs.declared.values.Kind.TheVariants as kind
 use Rattle.vo_spec.specs.declared.tables.Column.{Column}
 use Rattle.vo_spec.specs.declared.records.CatalogTable.{CatalogTable}
 use Rattle.vo_spec.specs.declared.records.Catalog.{Catalog}
 use Rattle.vo_spec.specs.Collides.{Collides}
-use Rattle.vo_spec.specs.Bytes.{u16_bytes, u64_bytes, short_string}
+use Rattle.vo_spec.specs.Bytes.{u64_bytes, short_string}
 use Rattle.vo_spec.specs.Values.{type_byte}
 use Rattle.vo_spec.specs.Tables.{max_tables}
 use Rattle.vo_spec.specs.Batches.{list_bytes, column_bytes, column_type}
 use Rattle.vo_spec.specs.Records.{catalog_table_bytes, catalog_bytes, catalog_digest, FitsCatalogTable, FitsCatalog}
 use Rattle.vo_laws.proofs.ConditionLaws.{same_kind_is}
-use Rattle.vo_laws.proofs.ValueOrder.{number_length}
-use Rattle.vo_laws.proofs.ByteLengths.{length-u16}
-
--- Pieces before anything more.
-
-same_pieces : (xs ys r s : List ℕ) → length xs ≡ length ys → xs ++ r ≡ ys ++ s → (xs ≡ ys) × (r ≡ s)
-same_pieces [] [] r s len e = (refl, e)
-same_pieces [] (y ∷ ys) r s len e = absurd (omega arith)
-same_pieces (x ∷ xs) [] r s len e = absurd (omega arith)
-same_pieces (x ∷ xs) (y ∷ ys) r s len e =
-    let first : x ≡ y = cc in
-    let others : xs ++ r ≡ ys ++ s = cc in
-    let rest = same_pieces xs ys r s (omega arith) others in
-    (rw (first, rest.0) refl, rest.1)
-
--- what is spelled so is told from its bytes and whatever stands behind them
-abbrev Told : {A : Type 0} → (A → List ℕ) → (A → Type 0) → Type 0
-Told {A} bytes Fits = (a b : A) (r s : List ℕ) → Fits a → Fits b → bytes a ++ r ≡ bytes b ++ s → (a ≡ b) × (r ≡ s)
-
-list_told : {A : Type 0} (bytes : A → List ℕ) (Fits : A → Type 0) → Told bytes Fits → (xs ys : List A) (r s : List ℕ) → AllByRecursion Fits xs → AllByRecursion Fits ys
-    → length xs ≡ length ys → flat_map bytes xs ++ r ≡ flat_map bytes ys ++ s → (xs ≡ ys) × (r ≡ s)
-list_told bytes Fits told [] [] r s xs_fit ys_fit len e = (refl, e)
-list_told bytes Fits told [] (y ∷ ys) r s xs_fit ys_fit len e = absurd (omega arith)
-list_told bytes Fits told (x ∷ xs) [] r s xs_fit ys_fit len e = absurd (omega arith)
-list_told bytes Fits told (x ∷ xs) (y ∷ ys) r s xs_fit ys_fit len e =
-    let first = told x y (flat_map bytes xs ++ r) (flat_map bytes ys ++ s) xs_fit.0 ys_fit.0
-    (sym (append_assoc (bytes x) (flat_map bytes xs) r) ∙ e ∙ append_assoc (bytes y) (flat_map bytes ys) s) in
-    let rest = list_told bytes Fits told xs ys r s xs_fit.1 ys_fit.1 (omega arith) first.1 in
-    (rw (first.0, rest.0) refl, rest.1)
-
-u16_told : Told u16_bytes (λ n. n < 2 ^ 16)
-unfolding u16_bytes
-u16_told m n r s m_fits n_fits e =
-    let p = same_pieces (u16_bytes m) (u16_bytes n) r s (length-u16 m ∙ sym (length-u16 n)) e in
-    (sym (from_be_bytes-to_be_bytes_2 m m_fits) ∙ ap (from_be_bytes w16) p.0 ∙ from_be_bytes-to_be_bytes_2 n n_fits, p.1)
-
-u64_told : Told u64_bytes (λ n. n < 2 ^ 64)
-unfolding u64_bytes
-u64_told m n r s m_fits n_fits e =
-    let p = same_pieces (u64_bytes m) (u64_bytes n) r s (number_length m ∙ sym (number_length n)) e in
-    (sym (from_be_bytes-to_be_bytes_8 m m_fits) ∙ ap (from_be_bytes w64) p.0 ∙ from_be_bytes-to_be_bytes_8 n n_fits, p.1)
+use Rattle.vo_laws.proofs.ToldBytes.{same_pieces, Told, list_told, u16_told, u64_told}
 
 short_told : (a b r s : List ℕ) → short_string a ++ r ≡ short_string b ++ s → (a ≡ b) × (r ≡ s)
 short_told a b r s e =

@@ -57,6 +57,7 @@ pub mod StepLaws
 pub mod EntryLaws
 pub mod SealedLaws
 pub mod NeedLaws
+pub mod ToldBytes
 pub mod CatalogEncoding
 pub mod PathProofs
 pub mod RemovalProofs

@@ -260,7 +260,7 @@ below_lower (Inclusive high) (Some s) key e b =
 below_lower (Exclusive high) None key e b = absurd (cc)
 below_lower (Exclusive high) (Some s) key e b = key_le_le high s key e (not-true (key_lt key s) b)
 
-passed_by : (interval : Interval) (lower upper : Option (List ℕ)) (key : List ℕ) → visits interval lower upper ≡ false
+pub passed_by : (interval : Interval) (lower upper : Option (List ℕ)) (key : List ℕ) → visits interval lower upper ≡ false
     → is_from lower key ≡ true → is_before upper key ≡ true → in_interval interval key ≡ false
 passed_by interval lower upper key e from before = elim (and_cases (ends_above interval.low upper) (begins_below interval.high lower) e) [
   | inl f ↦ outside_low (above_upper interval.low upper key f before)

@@ -59,7 +59,7 @@ module _ {E M : Type 0} (family : Family E M) where
         omega (arith, length-append (entries p) (entries_in ps))
 
   mutual
-    node_levels : (fewest height : ℕ) (lower upper : Option (List ℕ)) (t : Part E M) → IsNode family fewest height lower upper t → levels t ≡ height + 1
+    pub node_levels : (fewest height : ℕ) (lower upper : Option (List ℕ)) (t : Part E M) → IsNode family fewest height lower upper t → levels t ≡ height + 1
     node_levels fewest height lower upper (stub d) n = absurd n
     node_levels fewest height lower upper (leaf es) n = omega (arith, n.0)
     node_levels fewest height lower upper (inner ss ps) n =
@@ -76,7 +76,7 @@ module _ {E M : Type 0} (family : Family E M) where
         let rest : levels_in ps ≡ height + 1 = nodes_levels height (Some s) upper ss ps n.3 in
         omega arith
 
-  root_low : (fewest height : ℕ) (lower upper : Option (List ℕ)) (t : Part E M) → fewest_in_root family t ≤ fewest → IsNode family fewest height lower upper t
+  pub root_low : (fewest height : ℕ) (lower upper : Option (List ℕ)) (t : Part E M) → fewest_in_root family t ≤ fewest → IsNode family fewest height lower upper t
       → length (entries t) < 2 ^ 32 → height ≤ 10
   root_low fewest height lower upper (stub d) few n lt = absurd n
   root_low fewest height lower upper (leaf es) few n lt = omega (arith, n.0)
