@@ -1,0 +1,5 @@
+pub mod IndexKeys
+pub mod KeyOrdering
+pub mod IndexReads
+pub mod IndexUpdates
+pub mod IndexViewLaws
