@@ -13,7 +13,7 @@ use Rattle.vo_spec.specs.Parts.{stub, leaf, inner, none, more}
 use Rattle.vo_spec.specs.Trees.{RowTree, RowTrees, row_family}
 use Rattle.vo_spec.specs.Fits.{FitsPart, FitsEach, FitsEntry, FitsRow}
 use Rattle.vo_spec.specs.Inserts.{tree_with_entry}
-use Rattle.vo_spec.specs.Removes.{tree_without_key, tree_with_cells, set_row}
+use Rattle.vo_spec.specs.Removes.{edited_by, tree_without_key, tree_with_cells}
 use Rattle.btree.specs.Answers.{Answers}
 use Rattle.btree.specs.Lookup.{found}
 use Rattle.btree.specs.Nodes.{Kid, IsNewKid}
@@ -76,23 +76,24 @@ part_made (Ok node) (Ok t) h = ap Ok (sym (ap (λ (k : Kid PartEntry (Unit {0}))
 part_made (Ok node) (Err fault) h = absurd h
 part_made (Err fault) r h = fault_over (IsNewKid row_family part_kid) part_of fault r r h (λ f e. e)
 
--- A replacement is a look-up and an exchange.
+-- An edit of an entry is a look-up and an exchange.
 
-pub cells_replaced : (key : List ℕ) (changes : List CellChange) (t : RowTree) (e f : PartEntry) → found row_family key t ≡ Ok e → set_row changes e ≡ Ok f → tree_with_cells key changes t ≡ set_entry key f t
-cells_replaced key changes t e f finds sets =
-    found_edited row_family (set_row changes) key t
-    ∙ ap (λ r. and_then (λ x. and_then (λ y. set_entry key y t) (set_row changes x)) r) finds
-    ∙ ap (and_then (λ y. set_entry key y t)) sets
+module _ (edit : PartEntry → Result PartEntry UpdateFault) (key : List ℕ) (t : RowTree) where
+  pub entry_edited : (e f : PartEntry) → found row_family key t ≡ Ok e → edit e ≡ Ok f → edited_by row_family edit key t ≡ set_entry key f t
+  entry_edited e f finds edits =
+      found_edited row_family edit key t
+      ∙ ap (λ r. and_then (λ x. and_then (λ y. set_entry key y t) (edit x)) r) finds
+      ∙ ap (and_then (λ y. set_entry key y t)) edits
 
-pub none_replaced : (key : List ℕ) (changes : List CellChange) (t : RowTree) (fault : UpdateFault) → found row_family key t ≡ Err fault → tree_with_cells key changes t ≡ Err fault
-none_replaced key changes t fault fails =
-    found_edited row_family (set_row changes) key t ∙ ap (λ r. and_then (λ x. and_then (λ y. set_entry key y t) (set_row changes x)) r) fails
+  pub none_edited : (fault : UpdateFault) → found row_family key t ≡ Err fault → edited_by row_family edit key t ≡ Err fault
+  none_edited fault fails =
+      found_edited row_family edit key t ∙ ap (λ r. and_then (λ x. and_then (λ y. set_entry key y t) (edit x)) r) fails
 
-pub row_not_set : (key : List ℕ) (changes : List CellChange) (t : RowTree) (e : PartEntry) (fault : UpdateFault) → found row_family key t ≡ Ok e → set_row changes e ≡ Err fault → tree_with_cells key changes t ≡ Err fault
-row_not_set key changes t e fault finds fails =
-    found_edited row_family (set_row changes) key t
-    ∙ ap (λ r. and_then (λ x. and_then (λ y. set_entry key y t) (set_row changes x)) r) finds
-    ∙ ap (and_then (λ y. set_entry key y t)) fails
+  pub entry_not_edited : (e : PartEntry) (fault : UpdateFault) → found row_family key t ≡ Ok e → edit e ≡ Err fault → edited_by row_family edit key t ≡ Err fault
+  entry_not_edited e fault finds fails =
+      found_edited row_family edit key t
+      ∙ ap (λ r. and_then (λ x. and_then (λ y. set_entry key y t) (edit x)) r) finds
+      ∙ ap (and_then (λ y. set_entry key y t)) fails
 
 -- Changes of parts keep the limits of formats.
 

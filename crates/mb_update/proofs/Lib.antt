@@ -1,5 +1,7 @@
 pub mod ChangedCells
 pub mod Changes
 pub mod RowEntries
+pub mod RowExchanges
 pub mod RowLimits
 pub mod RowPruning
+pub mod ShownValues

@@ -34,8 +34,11 @@ pub row_fits : (row : Row) → FitsRow row → FitsEntry (whole_entry row)
 row_fits row fits =
     record { key = fits.key; row = (omega (arith, length-map row.cells Shown, fits.cells.count), cells_fit row.cells fits.cells.each) }
 
+pub put_fits : (e : PartEntry) (p q : RowTree) → FitsEntry e → FitsPart p → tree_with_entry e p ≡ Ok q → FitsPart q
+put_fits e p q fits = inserts.inserted_fits row_family FitsEntry key_fits e fits p q
+
 pub inserted_fits : (row : Row) (p q : RowTree) → FitsRow row → FitsPart p → tree_with_entry (whole_entry row) p ≡ Ok q → FitsPart q
-inserted_fits row p q fits = inserts.inserted_fits row_family FitsEntry key_fits (whole_entry row) (row_fits row fits) p q
+inserted_fits row p q fits = put_fits (whole_entry row) p q (row_fits row fits)
 
 -- A removal.
 

@@ -19,10 +19,10 @@ use Rattle.btree.proofs.InsertPrunes as inserts
 use Rattle.btree.proofs.RemovePrunes as removes
 use Rattle.btree.proofs.ReplacePrunes as replaces
 
-same_key : KeepsKeys row_family EntryPrunes
+pub same_key : KeepsKeys row_family EntryPrunes
 same_key e f z = z.key
 
-same_annotation : KeepsAnnotations row_family EntryPrunes
+pub same_annotation : KeepsAnnotations row_family EntryPrunes
 same_annotation p t z = refl
 
 -- An insertion, and one of a row with every cell shown.

@@ -1,2 +1,3 @@
 pub mod ChangeResults
+pub mod RowParts
 pub mod Sets

@@ -5,11 +5,12 @@ mod agreement;
 mod ops;
 mod part_rows;
 mod part_updates;
+mod row_copies;
 mod tree_rows;
 mod tree_updates;
 mod updates;
 
-pub use agreement::{insertions_agree, removals_agree, replacements_agree};
+pub use agreement::{exchanges_agree, insertions_agree, removals_agree, replacements_agree};
 pub use ops::{Op, SetCell};
 pub use tree_updates::insert_row;
 pub use updates::Updates;

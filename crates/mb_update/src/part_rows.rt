@@ -1,15 +1,17 @@
-//! Entries of parts of trees: those that an insertion puts, and those with other cells.
+//! Entries of parts of trees: those that are put, and those with another row or other cells.
 ghost use Rattle.std.specs.Prelude.{◌≡◌, ◌++◌, map, slice_set, IfOk, OnOk};
 ghost use Rattle.vo_spec.specs.declared.cells.Cell.TheVariants.{Shown};
 ghost use Rattle.vo_spec.specs.Cells.{whole_cells, whole_entry};
 ghost use Rattle.vo_spec.specs.Removes.{set_row, set_cells};
 ghost use Rattle.mb_update.specs.ChangeResults.{ChangesTo};
+ghost use Rattle.mb_update.specs.RowParts.{entry_of as entry_with_key};
 ghost use Rattle.mb_update.specs.Sets.{change_of};
 
 use crate::ops::SetCell;
+use crate::row_copies::copy_row;
 use btree::{TryClone, try_clone_all};
 use std::alloc::{AllocError, Global};
-use vo_spec::{Cell, CellValue, KeyPart, List, PartEntry, Row, RowPart, UpdateFault, Value};
+use vo_spec::{Cell, CellValue, Key, KeyPart, List, PartEntry, Row, RowPart, UpdateFault, Value};
 
 /// The row as an entry, with every cell shown.
 pub fn entry_of<'b>(alloc: Global, row: &Row) -> Result<PartEntry<'b>, AllocError>
@@ -48,6 +50,32 @@ fn shown_cell<'b>(alloc: Global, value: &Value) -> Result<Cell<'b>, AllocError>
     ensures { IfOk result (λ cell. cell ≡ Shown value.now) }
 {
     Ok(Cell::Shown(CellValue::owned(value.copy(alloc)?)))
+}
+
+/// The entry of this key with a copy of this row.
+pub fn put_entry<'b>(
+    alloc: Global,
+    key: &Key,
+    part: &RowPart<'_>,
+) -> Result<PartEntry<'b>, AllocError>
+    ensures { IfOk result (λ entry. entry ≡ entry_with_key key.now part.now) }
+{
+    let key = KeyPart::owned(key.copy(alloc)?);
+    let row = copy_row(alloc, part)?;
+    Ok(PartEntry { key, row })
+}
+
+/// The entry with a copy of this row in the place of its own.
+pub fn exchange_row<'b>(
+    alloc: Global,
+    entry: &PartEntry<'b>,
+    part: &RowPart<'_>,
+) -> Result<PartEntry<'b>, AllocError>
+    ensures { IfOk result (λ new. new ≡ entry_with_key entry.now.key part.now) }
+{
+    let key = entry.key.try_clone(alloc)?;
+    let row = copy_row(alloc, part)?;
+    Ok(PartEntry { key, row })
 }
 
 /// The entry with these cells in its row, which must stand as cells. A set of a column that isn't

@@ -1,13 +1,43 @@
-//! Rows of whole trees with other values in some of their cells.
+//! Entries of whole trees: those that are put as parts, and those with other values.
 ghost use Rattle.std.specs.Prelude.{◌≡◌, map, slice_set, IfOk, OnOk};
 ghost use Rattle.vo_spec.specs.Tables.{changed_cells};
-ghost use Rattle.vo_spec.specs.Fits.{FitsCells};
+ghost use Rattle.vo_spec.specs.Fits.{FitsCells, FitsKey};
+ghost use Rattle.vo_spec.specs.Representation.{values_of_row};
+ghost use Rattle.mb_update.specs.RowParts.{IsWholeRow};
 ghost use Rattle.mb_update.specs.Sets.{change_of, changed_by, FitsSets};
 
 use crate::ops::SetCell;
-use mb_tree::TreeEntry;
+use crate::row_copies::values_of;
+use mb_tree::{TreeEntry, TreeKey};
 use std::alloc::{AllocError, Global};
-use vo_spec::{List, Value, copy_values};
+use vo_spec::{Key, List, RowPart, Value, copy_values};
+
+/// The entry of this key with a copy of this row.
+pub fn put_entry(alloc: Global, key: &Key, part: &RowPart<'_>) -> Result<TreeEntry, AllocError>
+    requires key { FitsKey key.now }
+    requires part { IsWholeRow part.now }
+    ensures { IfOk result (λ entry. entry
+        ≡ record { key = key.now; cells = values_of_row part.now }) }
+{
+    let key = TreeKey::new(alloc, key.copy(alloc)?)?;
+    let cells = values_of(alloc, part)?;
+    TreeEntry::of_parts(alloc, key, cells)
+}
+
+/// The entry with a copy of this row in the place of its own.
+pub fn exchange_row(
+    alloc: Global,
+    entry: &TreeEntry,
+    part: &RowPart<'_>,
+) -> Result<TreeEntry, AllocError>
+    requires { IsWholeRow part.now }
+    ensures { IfOk result (λ new. new
+        ≡ record { key = entry.now.key; cells = values_of_row part.now }) }
+{
+    let key = entry.share_key()?;
+    let cells = values_of(alloc, part)?;
+    TreeEntry::of_parts(alloc, key, cells)
+}
 
 /// The entry with these values and the same key. Its digest is computed once, for all of them.
 pub fn entry_with(

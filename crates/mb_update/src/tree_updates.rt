@@ -8,15 +8,16 @@ ghost use Rattle.vo_spec.specs.Removes.{tree_without_key, tree_with_cells};
 ghost use Rattle.vo_spec.specs.Tables.{max_rows};
 ghost use Rattle.mb_tree.specs.RowCounts.{IsWhole};
 ghost use Rattle.mb_update.specs.ChangeResults.{ChangesTo, GivesTree, set_entry};
+ghost use Rattle.mb_update.specs.RowParts.{IsWholeRow, tree_with_part};
 ghost use Rattle.mb_update.specs.Sets.{change_of, FitsSets};
 
 use crate::ops::SetCell;
-use crate::tree_rows::entry_with;
+use crate::tree_rows::{entry_with, exchange_row, put_entry};
 use crate::updates::Updates;
 use btree::{find, insert, remove, set};
 use mb_tree::{Subtree, Tree, TreeEntry};
 use std::alloc::Global;
-use vo_spec::{Key, Row, UpdateFault};
+use vo_spec::{Key, Row, RowPart, UpdateFault};
 
 /// The tree with this row, which is moved into it. It shares with the old one all but the path to
 /// the row's leaf.
@@ -56,6 +57,21 @@ fn replace_cells(
     match find::<Subtree>(tree.root(), key) {
         Ok(old) => {
             let entry = entry_with(alloc, old, sets)?;
+            set_entry(alloc, tree, rows, key, entry)
+        },
+        Err(fault) => Err(fault),
+    }
+}
+
+/// The tree with a copy of this in the place of the row of this key.
+fn set_row(alloc: Global, tree: &Tree, key: &[u8], part: &RowPart<'_>) -> Result<Tree, UpdateFault>
+    requires { IsWholeRow part.now }
+    ensures { ChangesTo (λ t. t) result (tree_with_part key.now part.now tree.now) }
+{
+    let rows = tree.row_count();
+    match find::<Subtree>(tree.root(), key) {
+        Ok(old) => {
+            let entry = exchange_row(alloc, old, part)?;
             set_entry(alloc, tree, rows, key, entry)
         },
         Err(fault) => Err(fault),
@@ -104,6 +120,8 @@ impl Updates for Tree {
 
     ghost CanChange = { λ tree. Unit {0} };
 
+    ghost CanHold = { IsWholeRow };
+
     fn insert(&self, alloc: Global, row: &Row) -> Result<Tree, UpdateFault> {
         let entry = TreeEntry::new(alloc, row)?;
         insert_entry(alloc, self, entry)
@@ -115,5 +133,14 @@ impl Updates for Tree {
 
     fn remove(&self, alloc: Global, key: &Key) -> Result<Tree, UpdateFault> {
         remove_row(alloc, self, key.as_bytes())
+    }
+
+    fn put(&self, alloc: Global, key: &Key, part: &RowPart<'_>) -> Result<Tree, UpdateFault> {
+        let entry = put_entry(alloc, key, part)?;
+        insert_entry(alloc, self, entry)
+    }
+
+    fn set(&self, alloc: Global, key: &Key, part: &RowPart<'_>) -> Result<Tree, UpdateFault> {
+        set_row(alloc, self, key.as_bytes(), part)
     }
 }
