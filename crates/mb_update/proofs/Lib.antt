@@ -1,5 +1,6 @@
 pub mod ChangedCells
 pub mod Changes
+pub mod GivenRows
 pub mod RowEntries
 pub mod RowExchanges
 pub mod RowLimits

@@ -45,7 +45,7 @@ module _ (key : List ℕ) (part : RowPart) where
       let P : PartEntry → Type 0 = λ x. FitsEntry x in
       subst P (ok_same (entry_of e.key part) f is) (record { key = fits.key; row = new })
 
-  exchange_keeps_key : (e f : PartEntry) → with_part part e ≡ Ok f → f.key ≡ e.key
+  pub exchange_keeps_key : (e f : PartEntry) → with_part part e ≡ Ok f → f.key ≡ e.key
   exchange_keeps_key e f is = ap key_in (sym (ok_same (entry_of e.key part) f is))
 
   pub exchanged_fits : FitsRowPart part → (p q : RowTree) → FitsPart p → tree_with_part key part p ≡ Ok q → FitsPart q

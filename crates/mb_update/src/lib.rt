@@ -6,6 +6,8 @@ mod ops;
 mod part_rows;
 mod part_updates;
 mod row_copies;
+#[cfg(test)]
+mod tests;
 mod tree_rows;
 mod tree_updates;
 mod updates;

@@ -28,7 +28,7 @@ pub(crate) struct RootAfter {
 pub(crate) fn proof_fault(
     index: u64,
     table: &CatalogTable,
-    op: &Op,
+    op: &Op<'_>,
     tree: &PartTree<'_>,
 ) -> Option<OwnerFault>
     requires { FitsPart (part_of tree.now) }
@@ -54,7 +54,7 @@ fn root_by_change(
     alloc: Global,
     index: u64,
     table: &CatalogTable,
-    op: &Op,
+    op: &Op<'_>,
     tree: &PartTree<'_>,
 ) -> Result<RootAfter, OwnerFault>
     requires op { FitsOp op.now }
@@ -87,7 +87,7 @@ pub(crate) fn root_after(
     alloc: Global,
     index: u64,
     table: &CatalogTable,
-    op: &Op,
+    op: &Op<'_>,
     trees: &[PartTree<'_>],
 ) -> Result<RootAfter, OwnerFault>
     requires op { FitsOp op.now }

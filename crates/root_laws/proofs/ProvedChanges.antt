@@ -26,7 +26,7 @@ use Rattle.vo_laws.proofs.RepresentingTrees.{inserted_stands, replaced_stands}
 use Rattle.vo_laws.proofs.UpdateProofLaws.{insertion_proved, replacement_proved, removal_proved, insertion_works, replacement_works, removal_works}
 use Rattle.vo_laws.proofs.WithoutEntry.{without_length}
 use Rattle.mb_update.specs.declared.ops.Op.{Op}
-use Rattle.mb_update.specs.declared.ops.Op.TheVariants.{Insert as PutRow, Replace, Remove}
+use Rattle.mb_update.specs.declared.ops.Op.TheVariants.{Insert as PutRow, Replace, Remove, Put, Set}
 use Rattle.mb_update.specs.ChangeResults.{GoesOnPruning}
 use Rattle.mb_update.specs.Sets.{change_of}
 use Rattle.mb_update.proofs.RowPruning.{row_agrees, replaced_agrees, removed_agrees}
@@ -41,6 +41,7 @@ use Rattle.row_works.specs.Operations.{changed_tree, changed_count}
 use Rattle.owner_roots.specs.Forms.{has_schema_form}
 use Rattle.owner_roots.specs.Next.{with_root, proof_fault, table_by_change, table_after}
 use Rattle.root_laws.specs.Following.{IsOrRefusesProof}
+use Rattle.mb_update.proofs.GivenRows.{put_works, set_works, put_agrees, set_agrees, put_counted, set_counted}
 use Rattle.root_laws.proofs.TableForms.{part_has_form}
 use Rattle.root_laws.proofs.TableSteps.{table_by_tree}
 
@@ -50,21 +51,29 @@ proved : (op : Op) (t : RowTree) (rows : List Row) → Represents t rows → IsU
 proved (PutRow row) t rows stands = insertion_proved row.key t rows stands
 proved (Replace key sets) t rows stands = replacement_proved key t rows stands
 proved (Remove key) t rows stands = removal_proved key t rows stands
+proved (Put key part) t rows stands = insertion_proved key t rows stands
+proved (Set key part) t rows stands = insertion_proved key t rows stands
 
 works : (op : Op) (t : RowTree) (rows : List Row) → Represents t rows → lacks (changed_tree op (update_proof op t)) ≡ false
 works (PutRow row) t rows stands = insertion_works row t rows stands
 works (Replace key sets) t rows stands = replacement_works key (map change_of sets) t rows stands
 works (Remove key) t rows stands = removal_works key t rows stands
+works (Put key part) t rows stands = put_works key part t stands.tree
+works (Set key part) t rows stands = set_works key part t stands.tree
 
 agrees : (op : Op) (p t : RowTree) → Prunes p t → GoesOnPruning (changed_tree op p) (changed_tree op t)
 agrees (PutRow row) p t prunes = row_agrees row p t prunes
 agrees (Replace key sets) p t prunes = replaced_agrees (map change_of sets) key p t prunes
 agrees (Remove key) p t prunes = removed_agrees key p t prunes
+agrees (Put key part) p t prunes = put_agrees key part p t prunes
+agrees (Set key part) p t prunes = set_agrees key part p t prunes
 
 only_proof : (op : Op) (p t : RowTree) → update_is_missing op p ≡ false → update_has_surplus op p ≡ false → Prunes p t → p ≡ update_proof op t
 only_proof (PutRow row) p t complete minimal prunes = only_insert_proof row.key p t complete minimal prunes
 only_proof (Replace key sets) p t complete minimal prunes = only_replace_proof key p t complete minimal prunes
 only_proof (Remove key) p t complete minimal prunes = only_remove_proof key p t complete minimal prunes
+only_proof (Put key part) p t complete minimal prunes = only_insert_proof key p t complete minimal prunes
+only_proof (Set key part) p t complete minimal prunes = only_insert_proof key p t complete minimal prunes
 
 -- How many rows there are after a change.
 
@@ -82,6 +91,8 @@ counted (Replace key sets) t u rows stands e =
 counted (Remove key) t u rows stands e =
     let done : TreeShrinks row_family key (entries t) (Ok u) = subst (TreeShrinks row_family key (entries t)) e (tree_shrinks row_family key t stands.tree) in
     omega (arith, ap length done.2, without_length row_family key (entries t) done.0)
+counted (Put key part) t u rows stands e = put_counted key part t u e
+counted (Set key part) t u rows stands e = set_counted key part t u e
 
 -- The change by that proof.
 

@@ -4,11 +4,12 @@ use Rattle.std.specs.List.{AllByRecursion}
 use Rattle.vo_spec.specs.declared.tables.Schema.{Schema}
 use Rattle.vo_spec.specs.declared.tables.Command.{Command}
 use Rattle.vo_spec.specs.declared.tables.Command.TheVariants.{Insert, Update}
-use Rattle.vo_spec.specs.Fits.{FitsRow}
+use Rattle.vo_spec.specs.Fits.{FitsKey, FitsRow, FitsRowPart}
 use Rattle.vo_spec.specs.Tables.{row_of, max_rows}
 use Rattle.vo_spec.specs.Batches.{FitsSet, max_columns}
 use Rattle.mb_update.specs.declared.ops.Op.{Op}
-use Rattle.mb_update.specs.declared.ops.Op.TheVariants.{Insert as PutRow, Replace, Remove}
+use Rattle.mb_update.specs.declared.ops.Op.TheVariants.{Insert as PutRow, Replace, Remove, Put, Set}
+use Rattle.mb_update.specs.RowParts.{IsWholeRow}
 use Rattle.mb_update.specs.Sets.{FitsSets}
 
 -- the row of an INSERT fits; the values of an UPDATE fit, and its columns have numbers of a byte
@@ -23,9 +24,21 @@ abbrev pub FitsOp : Op → Type 0
 FitsOp (PutRow row) = FitsRow row
 FitsOp (Replace key sets) = FitsSets sets
 FitsOp (Remove key) = Unit {0}
+FitsOp (Put key part) = FitsKey key × FitsRowPart part
+FitsOp (Set key part) = FitsRowPart part
+
+-- a row that is put as it is given has every cell shown, as rows of whole trees have
+abbrev pub ShowsRow : Op → Type 0
+ShowsRow (PutRow row) = Unit {0}
+ShowsRow (Replace key sets) = Unit {0}
+ShowsRow (Remove key) = Unit {0}
+ShowsRow (Put key part) = IsWholeRow part
+ShowsRow (Set key part) = IsWholeRow part
 
 -- a table of this many rows has room for what the work puts there
 abbrev pub HasRoom : Op → ℕ → Type 0
 HasRoom (PutRow row) rows = rows < max_rows
 HasRoom (Replace key sets) rows = Unit {0}
 HasRoom (Remove key) rows = Unit {0}
+HasRoom (Put key part) rows = rows < max_rows
+HasRoom (Set key part) rows = Unit {0}

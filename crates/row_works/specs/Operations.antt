@@ -11,7 +11,8 @@ use Rattle.vo_spec.specs.Trees.{RowTree}
 use Rattle.vo_spec.specs.Inserts.{tree_with_entry}
 use Rattle.vo_spec.specs.Removes.{tree_without_key, tree_with_cells}
 use Rattle.mb_update.specs.declared.ops.Op.{Op}
-use Rattle.mb_update.specs.declared.ops.Op.TheVariants.{Insert as PutRow, Replace, Remove}
+use Rattle.mb_update.specs.declared.ops.Op.TheVariants.{Insert as PutRow, Replace, Remove, Put, Set}
+use Rattle.mb_update.specs.RowParts.{entry_of, tree_with_part}
 use Rattle.mb_update.specs.declared.ops.SetCell.{SetCell}
 use Rattle.mb_update.specs.Sets.{change_of}
 
@@ -40,9 +41,13 @@ abbrev pub changed_tree : Op → RowTree → Result RowTree UpdateFault
 changed_tree (PutRow row) = tree_with_entry (whole_entry row)
 changed_tree (Replace key sets) = tree_with_cells key (map change_of sets)
 changed_tree (Remove key) = tree_without_key key
+changed_tree (Put key part) = tree_with_entry (entry_of key part)
+changed_tree (Set key part) = tree_with_part key part
 
 -- how many rows a table has after a work that was not refused
 abbrev pub changed_count : Op → ℕ → ℕ
 changed_count (PutRow row) count = count + 1
 changed_count (Replace key sets) count = count
 changed_count (Remove key) count = count - 1
+changed_count (Put key part) count = count + 1
+changed_count (Set key part) count = count

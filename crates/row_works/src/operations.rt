@@ -6,7 +6,7 @@ ghost use Rattle.vo_spec.specs.Values.{key_of};
 ghost use Rattle.vo_spec.specs.Tables.{cell_changes};
 ghost use Rattle.mb_update.specs.declared.ops.Op.TheVariants.{Replace};
 ghost use Rattle.row_works.specs.Operations.{changes_rows, operation, set_cell};
-ghost use Rattle.row_works.specs.Limits.{FitsOp, FitsWork};
+ghost use Rattle.row_works.specs.Limits.{FitsOp, FitsWork, ShowsRow};
 
 use mb_update::{Op, SetCell};
 use row_bytes::key_of;
@@ -25,14 +25,15 @@ pub fn changes_rows(command: &Command) -> bool
 }
 
 /// The work of the command on the tree of its table. CREATE and DROP have none.
-pub fn operation(
+pub fn operation<'b>(
     alloc: Global,
     schema: &Schema,
     command: &Command,
-) -> Result<Option<Op>, AllocError>
+) -> Result<Option<Op<'b>>, AllocError>
     requires { FitsWork schema.now command.now }
     ensures value { IfOk result (λ op. op ≡ operation schema.now command.now) }
     ensures fits { IfOk result (λ op. IfSome op FitsOp) }
+    ensures shown { IfOk result (λ op. IfSome op ShowsRow) }
 {
     match command {
         Command::Create { .. } | Command::Drop { .. } => Ok(None),
@@ -52,17 +53,18 @@ pub fn operation(
 
 /// The work of an UPDATE.
 #[tactic(auto, using(crate::proofs::SetLaws::sets_fit))]
-fn replacement(
+fn replacement<'b>(
     alloc: Global,
     schema: &Schema,
     sets: &[SetPart],
     value: &Value,
-) -> Result<Op, AllocError>
+) -> Result<Op<'b>, AllocError>
     requires fits { AllByRecursion FitsSet sets.now }
     requires columns { length schema.now.columns ≤ max_columns }
     ensures value { IfOk result (λ op. op
         ≡ Replace (key_of value.now) (map set_cell (cell_changes schema.now sets.now))) }
     ensures fits { IfOk result FitsOp }
+    ensures shown { IfOk result ShowsRow }
 {
     let key = key_of(alloc, value)?;
     let sets = set_cells(alloc, schema, sets)?;

@@ -15,7 +15,7 @@ use std::alloc::Global;
 use vo_spec::{Key, List, MAX_KEY, Row, Value};
 
 /// The change that all the bytes are.
-pub fn read_change(alloc: Global, bytes: &[u8]) -> Result<Op, ReadFault>
+pub fn read_change<'b>(alloc: Global, bytes: &[u8]) -> Result<Op<'b>, ReadFault>
     ensures { IfOk result (λ op. FitsOp op) }
 {
     let mut cursor = Cursor::new(bytes);
@@ -24,7 +24,7 @@ pub fn read_change(alloc: Global, bytes: &[u8]) -> Result<Op, ReadFault>
 }
 
 /// The changes that all the bytes are, one behind the other.
-pub fn read_changes(alloc: Global, bytes: &[u8]) -> Result<Vec<Op>, ReadFault>
+pub fn read_changes<'b>(alloc: Global, bytes: &[u8]) -> Result<Vec<Op<'b>>, ReadFault>
     ensures { IfOk result (λ ops. All FitsOp ops.items) }
 {
     let mut cursor = Cursor::new(bytes);
@@ -38,7 +38,7 @@ pub fn read_changes(alloc: Global, bytes: &[u8]) -> Result<Vec<Op>, ReadFault>
     Ok(ops)
 }
 
-fn take_change(alloc: Global, cursor: &mut Cursor<'_>) -> Result<Op, ReadFault>
+fn take_change<'b>(alloc: Global, cursor: &mut Cursor<'_>) -> Result<Op<'b>, ReadFault>
     ensures { IfOk result (λ op. FitsOp op) }
 {
     let kind = cursor.take_byte().ok_or(ReadFault::BadForm)?;

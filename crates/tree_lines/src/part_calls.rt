@@ -26,7 +26,7 @@ pub fn change_part(alloc: Global, change: &[u8], part: &[u8]) -> io::Result<Stri
     }
 }
 
-fn change_part_by(alloc: Global, op: &Op, part: &[u8]) -> io::Result<String>
+fn change_part_by(alloc: Global, op: &Op<'_>, part: &[u8]) -> io::Result<String>
     requires { FitsOp op.now }
 {
     match read_part(alloc, part) {
@@ -48,7 +48,7 @@ fn describe_new(alloc: Global, new: Result<PartTree<'_>, UpdateFault>) -> io::Re
     }
 }
 
-fn part_after<'b>(alloc: Global, part: &PartTree<'b>, op: &Op) -> Result<PartTree<'b>, UpdateFault>
+fn part_after<'b>(alloc: Global, part: &PartTree<'b>, op: &Op<'_>) -> Result<PartTree<'b>, UpdateFault>
     requires fits { FitsPart (part_of part.now) }
     requires change { FitsOp op.now }
     ensures { IfOk result (λ new. FitsPart (part_of new)) }
@@ -57,6 +57,7 @@ fn part_after<'b>(alloc: Global, part: &PartTree<'b>, op: &Op) -> Result<PartTre
         Op::Insert { row } => part.insert(alloc, row),
         Op::Replace { key, sets } => part.replace(alloc, key, sets.as_slice()),
         Op::Remove { key } => part.remove(alloc, key),
+        Op::Put { .. } | Op::Set { .. } => unreachable!(),
     }
 }
 
@@ -72,7 +73,7 @@ pub fn change_part_in_turn(alloc: Global, changes: &[u8], part: &[u8]) -> io::Re
     }
 }
 
-fn change_part_by_all(alloc: Global, ops: &[Op], part: &[u8]) -> io::Result<String>
+fn change_part_by_all(alloc: Global, ops: &[Op<'_>], part: &[u8]) -> io::Result<String>
     requires { All FitsOp ops.now }
 {
     match read_part(alloc, part) {
@@ -81,7 +82,7 @@ fn change_part_by_all(alloc: Global, ops: &[Op], part: &[u8]) -> io::Result<Stri
     }
 }
 
-fn digest_after(alloc: Global, part: PartTree<'_>, ops: &[Op]) -> io::Result<String>
+fn digest_after(alloc: Global, part: PartTree<'_>, ops: &[Op<'_>]) -> io::Result<String>
     requires fits { FitsPart (part_of part) }
     requires changes { All FitsOp ops.now }
 {
@@ -103,7 +104,7 @@ fn part_digest(alloc: Global, part: PartTree<'_>) -> io::Result<String>
 fn part_after_all<'b>(
     alloc: Global,
     part: PartTree<'b>,
-    ops: &[Op],
+    ops: &[Op<'_>],
 ) -> Result<PartTree<'b>, UpdateFault>
     requires fits { FitsPart (part_of part) }
     requires changes { All FitsOp ops.now }
@@ -130,7 +131,7 @@ pub fn judge_change(alloc: Global, change: &[u8], part: &[u8]) -> io::Result<Str
     }
 }
 
-fn judge_change_by(alloc: Global, op: &Op, part: &[u8]) -> io::Result<String> {
+fn judge_change_by(alloc: Global, op: &Op<'_>, part: &[u8]) -> io::Result<String> {
     match read_part(alloc, part) {
         Ok(part) => {
             let is_proof = is_update_proof(&part, op);

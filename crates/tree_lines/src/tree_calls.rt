@@ -51,7 +51,7 @@ pub fn change_tree(alloc: Global, tables: &StoredTables, change: &[u8]) -> io::R
     }
 }
 
-fn change_tree_by(alloc: Global, tables: &StoredTables, op: &Op) -> io::Result<String>
+fn change_tree_by(alloc: Global, tables: &StoredTables, op: &Op<'_>) -> io::Result<String>
     requires { FitsOp op.now }
 {
     match tables.find(b"t") {
@@ -60,7 +60,7 @@ fn change_tree_by(alloc: Global, tables: &StoredTables, op: &Op) -> io::Result<S
     }
 }
 
-fn count_new_and_old(alloc: Global, tree: &Tree, op: &Op) -> io::Result<String>
+fn count_new_and_old(alloc: Global, tree: &Tree, op: &Op<'_>) -> io::Result<String>
     requires { FitsOp op.now }
 {
     let new = new_count_and_digest(alloc, tree, op)?;
@@ -68,7 +68,7 @@ fn count_new_and_old(alloc: Global, tree: &Tree, op: &Op) -> io::Result<String>
     Ok(format!(in alloc; "{new} of {old}")?)
 }
 
-fn new_count_and_digest(alloc: Global, tree: &Tree, op: &Op) -> io::Result<String>
+fn new_count_and_digest(alloc: Global, tree: &Tree, op: &Op<'_>) -> io::Result<String>
     requires { FitsOp op.now }
 {
     match tree_after(alloc, tree, op) {
@@ -82,7 +82,7 @@ fn new_count_and_digest(alloc: Global, tree: &Tree, op: &Op) -> io::Result<Strin
 }
 
 /// The tree after a change; one with no room for more rows has no memory for an insertion.
-fn tree_after(alloc: Global, tree: &Tree, op: &Op) -> Result<Tree, UpdateFault>
+fn tree_after(alloc: Global, tree: &Tree, op: &Op<'_>) -> Result<Tree, UpdateFault>
     requires { FitsOp op.now }
 {
     match op {
@@ -94,6 +94,7 @@ fn tree_after(alloc: Global, tree: &Tree, op: &Op) -> Result<Tree, UpdateFault>
         }
         Op::Replace { key, sets } => tree.replace(alloc, key, sets.as_slice()),
         Op::Remove { key } => tree.remove(alloc, key),
+        Op::Put { .. } | Op::Set { .. } => unreachable!(),
     }
 }
 
@@ -109,7 +110,7 @@ pub fn prove_change(alloc: Global, tables: &StoredTables, change: &[u8]) -> io::
     }
 }
 
-fn prove_change_by(alloc: Global, tables: &StoredTables, op: &Op) -> io::Result<String> {
+fn prove_change_by(alloc: Global, tables: &StoredTables, op: &Op<'_>) -> io::Result<String> {
     match tables.find(b"t") {
         Some(table) => tree_digits(alloc, proof_of(alloc, &table.tree, op)?),
         None => word(alloc, "no table"),
@@ -117,7 +118,7 @@ fn prove_change_by(alloc: Global, tables: &StoredTables, op: &Op) -> io::Result<
 }
 
 #[tactic(auto, using(crate::proofs::ChangeProofs::update_proof_fits))]
-fn proof_of<'b>(alloc: Global, tree: &'b Tree, op: &Op) -> Result<PartTree<'b>, AllocError>
+fn proof_of<'b>(alloc: Global, tree: &'b Tree, op: &Op<'_>) -> Result<PartTree<'b>, AllocError>
     requires { FitsTree tree.now }
     ensures { IfOk result (λ part. FitsPart (part_of part)) }
 {

@@ -8,7 +8,7 @@ use Rattle.vo_spec.specs.Inserts.{closed_entry, insert_is_missing, insert_has_su
 use Rattle.vo_spec.specs.Removes.{opened_row, opened_sibling, replace_proof, remove_proof}
 use Rattle.btree.specs.Steps.{sibling_of, opens_sibling_by}
 use Rattle.mb_update.specs.declared.ops.Op.{Op}
-use Rattle.mb_update.specs.declared.ops.Op.TheVariants.{Insert, Replace, Remove}
+use Rattle.mb_update.specs.declared.ops.Op.TheVariants.{Insert, Replace, Remove, Put, Set}
 use Rattle.update_proof.specs.declared.change.Change.{Change}
 use Rattle.update_proof.specs.declared.change.Change.TheVariants.{Insertion, Replacement, Removal}
 use Rattle.update_proof.specs.OpenParts.{closed_tree, is_open_outside, shows_cells}
@@ -18,11 +18,15 @@ abbrev pub change_in : Op → Change
 change_in (Insert row) = Insertion
 change_in (Replace key sets) = Replacement
 change_in (Remove key) = Removal
+change_in (Put key part) = Insertion
+change_in (Set key part) = Insertion
 
 abbrev pub key_in : Op → List ℕ
 key_in (Insert row) = row.key
 key_in (Replace key sets) = key
 key_in (Remove key) = key
+key_in (Put key part) = key
+key_in (Set key part) = key
 
 -- the change leaves the child of a node underfull, so that its sibling is opened
 abbrev pub opens_sibling_in : {E M : Type 0} → Family E M → Change → List ℕ → Part E M → Bool

@@ -10,28 +10,30 @@ use mb_update::Op;
 /// The kinds of changes.
 #[derive(Clone, Copy, Drop)]
 pub enum Change {
+    /// Of a row, or an exchange of one as it is given: no row that is there is looked at.
     Insertion,
     Replacement,
     Removal,
 }
 
-pub fn change_of(op: &Op) -> Change
+pub fn change_of(op: &Op<'_>) -> Change
     ensures { result ≡ change_in op.now }
 {
     match op {
-        Op::Insert { .. } => Change::Insertion,
+        Op::Insert { .. } | Op::Put { .. } | Op::Set { .. } => Change::Insertion,
         Op::Replace { .. } => Change::Replacement,
         Op::Remove { .. } => Change::Removal,
     }
 }
 
-pub fn key_of(op: &Op) -> &[u8]
+pub fn key_of<'a>(op: &'a Op<'_>) -> &'a [u8]
     ensures { result.now ≡ key_in op.now }
 {
     match op {
         Op::Insert { row } => row.key.as_bytes(),
         Op::Replace { key, .. } => key.as_bytes(),
         Op::Remove { key } => key.as_bytes(),
+        Op::Put { key, .. } | Op::Set { key, .. } => key.as_bytes(),
     }
 }
 

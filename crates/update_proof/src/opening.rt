@@ -18,7 +18,11 @@ use mb_update::Op;
 use std::alloc::{AllocError, Global};
 
 /// The proof of the change: what of the tree it looks at, and no more.
-pub fn prune_update<'b>(alloc: Global, tree: &'b Tree, op: &Op) -> Result<PartTree<'b>, AllocError>
+pub fn prune_update<'b>(
+    alloc: Global,
+    tree: &'b Tree,
+    op: &Op<'_>,
+) -> Result<PartTree<'b>, AllocError>
     ensures { IfOk result (λ part. part_of part ≡ update_proof op.now tree.now) }
 {
     open_along(alloc, tree.root(), key_of(op), change_of(op))

@@ -17,7 +17,7 @@ use vo_spec::{KeyPart, ScanFault};
 
 /// Whether the part is the proof of the change, as far as it alone can tell: with nothing missing,
 /// true exactly where nothing is open that the change doesn't look at. It takes no memory.
-pub fn is_update_proof(tree: &PartTree<'_>, op: &Op) -> Result<bool, ScanFault>
+pub fn is_update_proof(tree: &PartTree<'_>, op: &Op<'_>) -> Result<bool, ScanFault>
     ensures { result ≡ missing_or (update_is_missing op.now (part_of tree.now))
         (not (update_has_surplus op.now (part_of tree.now))) }
 {

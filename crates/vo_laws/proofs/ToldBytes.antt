@@ -53,8 +53,8 @@ u64_told m n r s m_fits n_fits e =
 pub string_told : Told string FitsKey
 string_told k l r s k_fits l_fits e =
     let whole : u16_bytes (length k) ++ (k ++ r) ≡ u16_bytes (length l) ++ (l ++ s) =
-        sym (append_assoc (u16_bytes (length k)) k r) ∙ e
-        ∙ append_assoc (u16_bytes (length l)) l s in
+    sym (append_assoc (u16_bytes (length k)) k r) ∙ e
+    ∙ append_assoc (u16_bytes (length l)) l s in
     let lengths = u16_told (length k) (length l) (k ++ r) (l ++ s) (omega arith) (omega arith) whole in
     same_pieces k l r s lengths.0 lengths.1
 
@@ -66,8 +66,8 @@ strings_told [] (l ∷ ls) r s len ks_fit ls_fit e = absurd (omega arith)
 strings_told (k ∷ ks) [] r s len ks_fit ls_fit e = absurd (omega arith)
 strings_told (k ∷ ks) (l ∷ ls) r s len ks_fit ls_fit e =
     let whole : string k ++ (flat_map string ks ++ r) ≡ string l ++ (flat_map string ls ++ s) =
-        sym (append_assoc (string k) (flat_map string ks) r) ∙ e
-        ∙ append_assoc (string l) (flat_map string ls) s in
+    sym (append_assoc (string k) (flat_map string ks) r) ∙ e
+    ∙ append_assoc (string l) (flat_map string ls) s in
     let first = string_told k l _ _ (ks_fit 0 k (omega arith)) (ls_fit 0 l (omega arith)) whole in
     let rest = strings_told ks ls r s (omega arith) (λ i x lt. ks_fit (suc i) x (omega arith))
     (λ i x lt. ls_fit (suc i) x (omega arith)) first.1 in
