@@ -48,7 +48,11 @@ fn describe_new(alloc: Global, new: Result<PartTree<'_>, UpdateFault>) -> io::Re
     }
 }
 
-fn part_after<'b>(alloc: Global, part: &PartTree<'b>, op: &Op<'_>) -> Result<PartTree<'b>, UpdateFault>
+fn part_after<'b>(
+    alloc: Global,
+    part: &PartTree<'b>,
+    op: &Op<'_>,
+) -> Result<PartTree<'b>, UpdateFault>
     requires fits { FitsPart (part_of part.now) }
     requires change { FitsOp op.now }
     ensures { IfOk result (λ new. FitsPart (part_of new)) }
