@@ -35,8 +35,7 @@ value_among values (x ∷ cells) c i = step (x == c) refl i (value_among values 
 
 module _ (schema : Schema) (indexed : ℕ) (cells : List ℕ) (row : Row)
     (fits : IsIndexable (kind_in schema indexed)
-    (value_at row.cells (cell_number schema.key indexed)))
-    (other : (indexed == schema.key) ≡ false) where
+    (value_at row.cells (cell_number schema.key indexed))) where
   -- the columns that are read: the key, the indexed one, and those of the cells
   abbrev pub IsShown : ℕ → Type 0
   IsShown column = ((column == schema.key) ≡ true) ⊎ ((column == indexed) ≡ true)
@@ -82,16 +81,15 @@ among_in c (x ∷ cells) e = elim (or_cases (x == c) (list_any (λ y. y == c) ce
 
 pub shows_column : (schema : Schema) (indexed : ℕ) (cells : List ℕ) (row : Row)
     → IsIndexable (kind_in schema indexed) (value_at row.cells (cell_number schema.key indexed))
-    → (indexed == schema.key) ≡ false
     → (column : ℕ) → ((column == schema.key) ≡ true) ⊎ ((column == indexed) ≡ true)
     ⊎ (list_any (λ c. c == cell_number schema.key column) cells ≡ true)
     → index_row_view schema indexed cells
     (seen_row cells (index_row (cell_number schema.key indexed) row)) column
     ≡ row_view_of schema row column
-shows_column schema indexed cells row fits other column (inl e) =
-    shows_row schema indexed cells row fits other column (inl e)
-shows_column schema indexed cells row fits other column (inr (inl e)) =
-    shows_row schema indexed cells row fits other column (inr (inl e))
-shows_column schema indexed cells row fits other column (inr (inr e)) =
-    shows_row schema indexed cells row fits other column
+shows_column schema indexed cells row fits column (inl e) =
+    shows_row schema indexed cells row fits column (inl e)
+shows_column schema indexed cells row fits column (inr (inl e)) =
+    shows_row schema indexed cells row fits column (inr (inl e))
+shows_column schema indexed cells row fits column (inr (inr e)) =
+    shows_row schema indexed cells row fits column
     (inr (inr (among_in (cell_number schema.key column) cells e)))

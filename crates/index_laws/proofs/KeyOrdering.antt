@@ -1,13 +1,14 @@
 -- Rows put in the order of their keys.
 use Rattle.std.proofs.Common.{◌≡◌, ℕ, Bool, true, false, cond, List, [], ◌∷◌, map, inl, inr, refl, sym, ap, ◌∙◌, subst}
-use Rattle.std.specs.Prelude.{◌⊎◌, filter, IsTrue}
+use Rattle.std.specs.Prelude.{◌⊎◌, filter, bytes_eq, IsTrue}
 use Rattle.std.specs.List.{AllByRecursion}
 use Rattle.std.proofs.lemmas.Bool.{both_ways}
+use Rattle.std.proofs.lemmas.Slice.Eq.{bytes_eq-Decides}
 use Rattle.vo_spec.specs.declared.values.Row.{Row}
 use Rattle.vo_spec.specs.Values.{key_lt}
 use Rattle.vo_spec.specs.Tables.{put_row}
 use Rattle.vo_spec.specs.Representation.{AreRising}
-use Rattle.vo_laws.proofs.KeyOrder.{key_lt_back, key_lt_lt}
+use Rattle.vo_laws.proofs.KeyOrder.{key_lt_itself, key_lt_back, key_lt_lt}
 use Rattle.vo_laws.proofs.ListLaws.{each_weaker, each_filter, each_map, each_mapped}
 use Rattle.index_laws.specs.Indexes.{put_in_order, in_key_order}
 
@@ -271,3 +272,44 @@ picked_in_order test (row ∷ rows) apart =
         ≡ in_key_order (cond b (row ∷ filter test rows) (filter test rows))
     step true rest = ap (put_in_order row) rest
     step false rest = rest
+
+-- Rows of one key stay as they are.
+
+module _ (key : List ℕ) where
+  abbrev has_key : Row → Bool
+  has_key row = bytes_eq row.key key
+
+  put_of_key : (row : Row) (rows : List Row)
+      → filter has_key (put_in_order row rows) ≡ filter has_key (row ∷ rows)
+  put_of_key row [] = refl
+  put_of_key row (r ∷ rows) = step (key_lt r.key row.key) refl (put_of_key row rows)
+    where
+      behind : (b c : Bool) → has_key r ≡ b → has_key row ≡ c → key_lt r.key row.key ≡ true
+          → filter has_key (put_in_order row rows)
+          ≡ cond c (row ∷ filter has_key rows) (filter has_key rows)
+          → cond b (r ∷ filter has_key (put_in_order row rows))
+          (filter has_key (put_in_order row rows))
+          ≡ cond c (row ∷ cond b (r ∷ filter has_key rows) (filter has_key rows))
+          (cond b (r ∷ filter has_key rows) (filter has_key rows))
+      behind true true f g e rest =
+          let same : r.key ≡ row.key =
+          (bytes_eq-Decides r.key key).0 f ∙ sym ((bytes_eq-Decides row.key key).0 g) in
+          absurd (both_ways (key_lt r.key row.key)
+          (subst (λ k. key_lt r.key k ≡ false) same (key_lt_itself r.key)) e)
+      behind true false f g e rest = ap (λ z. r ∷ z) rest
+      behind false true f g e rest = rest
+      behind false false f g e rest = rest
+
+      step : (b : Bool) → key_lt r.key row.key ≡ b
+          → filter has_key (put_in_order row rows) ≡ filter has_key (row ∷ rows)
+          → filter has_key (cond b (r ∷ put_in_order row rows) (row ∷ r ∷ rows))
+          ≡ filter has_key (row ∷ r ∷ rows)
+      step true e rest = behind (has_key r) (has_key row) refl refl e rest
+      step false e rest = refl
+
+  pub of_key_kept : (rows : List Row)
+      → filter has_key (in_key_order rows) ≡ filter has_key rows
+  of_key_kept [] = refl
+  of_key_kept (row ∷ rows) =
+      put_of_key row (in_key_order rows)
+      ∙ ap (λ z. cond (has_key row) (row ∷ z) z) (of_key_kept rows)

@@ -1,7 +1,7 @@
 //! Laws of secondary indexes.
 #![tactic(auto)]
 
-ghost use Rattle.std.specs.Prelude.{◌≡◌, ◌⊎◌, ℕ, ◌==◌, true, false, List, map, filter, Some};
+ghost use Rattle.std.specs.Prelude.{◌≡◌, ◌⊎◌, ℕ, ◌==◌, true, false, List, map, filter, bytes_eq, Some};
 ghost use Rattle.std.specs.List.{AllByRecursion, list_any};
 ghost use Rattle.vo_spec.specs.declared.values.Kind.{Kind};
 ghost use Rattle.vo_spec.specs.declared.values.Value.{Value};
@@ -51,6 +51,14 @@ pub fn index_rows_rise()
     ensures { (k : Kind) (cell : ℕ) (rows : List Row) → HaveValues k cell rows
         → AreRising (map (λ row. row.key) rows)
         → AreRising (map (λ row. row.key) (index_rows cell rows)) }
+{}
+
+/// Rows put in the order of their keys are the same rows, and those of one key stay as they were. So
+/// a part of a tree in which a key is twice, as no honest one is, still is read in one way.
+pub fn key_order_keeps_the_rows()
+    ensures { (key : List ℕ) (rows : List Row)
+        → filter (λ row. bytes_eq row.key key) (in_key_order rows)
+        ≡ filter (λ row. bytes_eq row.key key) rows }
 {}
 
 /// What an index has within the bounds of a comparison, put in the order of the rows' keys, are the
@@ -112,7 +120,6 @@ pub fn index_rows_show_the_table()
     ensures { (schema : Schema) (indexed : ℕ) (cells : List ℕ) (row : Row)
         → let cell : ℕ = cell_number schema.key indexed in
         IsIndexable (kind_in schema indexed) (value_at row.cells cell)
-        → (indexed == schema.key) ≡ false
         → (column : ℕ)
         → ((column == schema.key) ≡ true) ⊎ ((column == indexed) ≡ true)
         ⊎ (list_any (λ c. c == cell_number schema.key column) cells ≡ true)
