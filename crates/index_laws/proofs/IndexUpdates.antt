@@ -51,8 +51,8 @@ changed_keeps key changes row = step (bytes_eq row.key key)
     step false = refl
 
 module _ (changes : List CellChange) (row : Row) where
-  abbrev changed : Row
-  changed = changed_row row.key changes row
+  abbrev row_after : Row
+  row_after = changed_row row.key changes row
 
   -- A changed row is one that is removed and put in anew.
 
@@ -68,12 +68,12 @@ module _ (changes : List CellChange) (row : Row) where
       step false e rest = rw e rest
 
   put_before_all : (rows : List Row) → AreAbove row.key rows
-      → put_row changed (without_row row.key rows)
-      ≡ changed ∷ map (changed_row row.key changes) rows
+      → put_row row_after (without_row row.key rows)
+      ≡ row_after ∷ map (changed_row row.key changes) rows
   put_before_all [] above = refl
   put_before_all (r ∷ rows) above =
       rw (other_back r.key row.key above.0, changed_keeps row.key changes row, above.0)
-      (ap (λ z. changed ∷ r ∷ z) (others rows above.1))
+      (ap (λ z. row_after ∷ r ∷ z) (others rows above.1))
     where
       others : (rs : List Row) → AreAbove row.key rs
           → without_row row.key rs ≡ map (changed_row row.key changes) rs
@@ -90,15 +90,15 @@ module _ (changes : List CellChange) (row : Row) where
       ]
 
   put_anew : (rows : List Row) → RowsRise rows → IsOnlyRow row rows → has_row row.key rows ≡ true
-      → put_row changed (without_row row.key rows) ≡ map (changed_row row.key changes) rows
+      → put_row row_after (without_row row.key rows) ≡ map (changed_row row.key changes) rows
   put_anew [] rise only has = absurd (cc)
   put_anew (r ∷ rows) rise only has =
       step (bytes_eq r.key row.key) refl has (put_anew rows rise.1 only.1)
     where
       step : (b : Bool) → bytes_eq r.key row.key ≡ b → (b || has_row row.key rows) ≡ true
           → (has_row row.key rows ≡ true
-          → put_row changed (without_row row.key rows) ≡ map (changed_row row.key changes) rows)
-          → put_row changed (cond (not b) (r ∷ without_row row.key rows) (without_row row.key rows))
+          → put_row row_after (without_row row.key rows) ≡ map (changed_row row.key changes) rows)
+          → put_row row_after (cond (not b) (r ∷ without_row row.key rows) (without_row row.key rows))
           ≡ cond b (record { key = r.key; cells = changed_cells changes r.cells }) r
           ∷ map (changed_row row.key changes) rows
       step true e h rest =

@@ -101,13 +101,13 @@ put_either a b rows (inr e) = sym (put_below b a rows e)
 -- What a row that is put adds to what is selected, changed and put in order.
 
 module _ (f : Row → Row) (test : Row → Bool) where
-  abbrev pub selected : List Row → List Row
-  selected rows = in_key_order (map f (filter test rows))
+  abbrev pub rows_that_pass : List Row → List Row
+  rows_that_pass rows = in_key_order (map f (filter test rows))
 
   selected_put : (x : Row) (rows : List Row)
       → AllByRecursion (λ (y : Row). Apart (f x).key (f y).key) rows
-      → selected (put_in_order x rows)
-      ≡ cond (test x) (put_in_order (f x) (selected rows)) (selected rows)
+      → rows_that_pass (put_in_order x rows)
+      ≡ cond (test x) (put_in_order (f x) (rows_that_pass rows)) (rows_that_pass rows)
   selected_put x [] all = step (test x)
     where
       step : (b : Bool) → in_key_order (map f (cond b (x ∷ []) []))
@@ -118,27 +118,27 @@ module _ (f : Row → Row) (test : Row → Bool) where
     where
       first : (b : Bool) → in_key_order
           (map f (cond b (x ∷ filter test (y ∷ rows)) (filter test (y ∷ rows))))
-          ≡ cond b (put_in_order (f x) (selected (y ∷ rows))) (selected (y ∷ rows))
+          ≡ cond b (put_in_order (f x) (rows_that_pass (y ∷ rows))) (rows_that_pass (y ∷ rows))
       first true = refl
       first false = refl
 
-      behind : (b c : Bool) → selected (put_in_order x rows)
-          ≡ cond b (put_in_order (f x) (selected rows)) (selected rows)
+      behind : (b c : Bool) → rows_that_pass (put_in_order x rows)
+          ≡ cond b (put_in_order (f x) (rows_that_pass rows)) (rows_that_pass rows)
           → in_key_order (map f (cond c (y ∷ filter test (put_in_order x rows))
           (filter test (put_in_order x rows))))
           ≡ cond b (put_in_order (f x) (in_key_order
           (map f (cond c (y ∷ filter test rows) (filter test rows)))))
           (in_key_order (map f (cond c (y ∷ filter test rows) (filter test rows))))
       behind true true rest = ap (put_in_order (f y)) rest
-          ∙ sym (put_either (f x) (f y) (selected rows) all.0)
+          ∙ sym (put_either (f x) (f y) (rows_that_pass rows) all.0)
       behind false true rest = ap (put_in_order (f y)) rest
       behind true false rest = rest
       behind false false rest = rest
 
-      step : (b : Bool) → selected (put_in_order x rows)
-          ≡ cond (test x) (put_in_order (f x) (selected rows)) (selected rows)
-          → selected (cond b (y ∷ put_in_order x rows) (x ∷ y ∷ rows))
-          ≡ cond (test x) (put_in_order (f x) (selected (y ∷ rows))) (selected (y ∷ rows))
+      step : (b : Bool) → rows_that_pass (put_in_order x rows)
+          ≡ cond (test x) (put_in_order (f x) (rows_that_pass rows)) (rows_that_pass rows)
+          → rows_that_pass (cond b (y ∷ put_in_order x rows) (x ∷ y ∷ rows))
+          ≡ cond (test x) (put_in_order (f x) (rows_that_pass (y ∷ rows))) (rows_that_pass (y ∷ rows))
       step true rest = behind (test x) (test y) rest
       step false rest = first (test x)
 
@@ -164,7 +164,7 @@ module _ (map_out map_back : Row → Row) (test : Row → Bool) where
   )
 
   pub read_back : (rows : List Row) → AreRestored rows → RowsRise rows
-      → selected map_back test (in_key_order (map map_out rows))
+      → rows_that_pass map_back test (in_key_order (map map_out rows))
       ≡ filter (λ row. test (map_out row)) rows
   read_back [] restored rise = refl
   read_back (row ∷ rows) restored rise =
@@ -178,10 +178,10 @@ module _ (map_out map_back : Row → Row) (test : Row → Bool) where
       kept : List Row
       kept = filter (λ r. test (map_out r)) rows
 
-      step : (b : Bool) → selected map_back test (in_key_order (map map_out rows)) ≡ kept
+      step : (b : Bool) → rows_that_pass map_back test (in_key_order (map map_out rows)) ≡ kept
           → cond b (put_in_order (map_back (map_out row))
-          (selected map_back test (in_key_order (map map_out rows))))
-          (selected map_back test (in_key_order (map map_out rows))) ≡ cond b (row ∷ kept) kept
+          (rows_that_pass map_back test (in_key_order (map map_out rows))))
+          (rows_that_pass map_back test (in_key_order (map map_out rows))) ≡ cond b (row ∷ kept) kept
       step true rest = rw (rest, restored.0)
           (put_first row kept (each_filter (λ (r : Row). key_lt row.key r.key ≡ true)
           (λ r. test (map_out r)) rows (each_above row.key rows rise.0)))
