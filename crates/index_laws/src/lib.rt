@@ -53,8 +53,8 @@ pub fn index_rows_rise()
         → AreRising (map (λ row. row.key) (index_rows cell rows)) }
 {}
 
-/// Rows put in the order of their keys are the same rows, and those of one key stay as they were. So
-/// a part of a tree in which a key is twice, as no honest one is, still is read in one way.
+/// Rows put in the order of their keys are the same rows, and those of one key stay as they were.
+/// So a part of a tree in which a key is twice, as no honest one is, still is read in one way.
 pub fn key_order_keeps_the_rows()
     ensures { (key : List ℕ) (rows : List Row)
         → filter (λ row. bytes_eq row.key key) (in_key_order rows)
